@@ -150,18 +150,6 @@ def tests_in(crate: str) -> int:
     return sum(len(TEST.findall(text)) for _, text in sources(crate))
 
 
-def worked_cases() -> int:
-    """How many worked cases of dwarf_list there are (`tools/cases`)."""
-    texts = map(text_of, glob.glob(f"{ROOT}/crates/dwarf_list/cases/*.md"))
-    return sum(len(re.findall(r"^\$ dwarf_list\b", it, re.M)) for it in texts)
-
-
-def script_tests() -> int:
-    """How many tests of scripts there are."""
-    files = glob.glob(f"{ROOT}/tools/workshop/script_tests/test_*.py")
-    return sum(len(re.findall(r"^    def test_", text_of(it), re.M)) for it in files)
-
-
 def lanes(memory: int) -> int:
     """How many commands that take this much memory the machine has processors and room for, at least one."""
     processors = len(os.sched_getaffinity(0))

@@ -9,8 +9,8 @@ begin with `> ` continue it. What follows is what the run prints, to standard ou
 status isn't 0. Each line ends with a newline, the last one too. A byte that isn't ASCII is written `\\xff`, and ` ...`
 is any rest of a line. The last line of a run is its exit status in brackets, if that isn't 0.
 
-Each case that fails is printed with what came. The last line is `N passed, M failed`. The exit status is 0 if nothing
-failed, 1 if a case did or the program can't be run, and 2 for a wrong command line or without the kit.
+Each case that fails is printed with what came. The last line is `N passed, M failed, K skipped`. The exit status is 0
+if nothing failed, 1 if a case did or the program can't be run, and 2 for a wrong command line.
 """
 import glob
 import os
@@ -18,8 +18,9 @@ import re
 import shlex
 import subprocess
 import sys
+from collections import Counter
+from collections.abc import Iterable
 from dataclasses import dataclass, field
-from typing import Optional
 
 from workshop import frame, kit
 from workshop.code import assembler, products, unproved
@@ -27,6 +28,10 @@ from workshop.code import assembler, products, unproved
 CRATE = "dwarf_list"
 RUN = re.compile(rf"\$ {CRATE}(?: (.*))?")
 STATUS = re.compile(r"\[(\d+)\]")
+FOLDER = f"{kit.ROOT}/crates/{CRATE}/cases"
+FILES = sorted(os.path.basename(it).removesuffix(".md") for it in glob.glob(f"{FOLDER}/*.md"))
+# How much of an input is in the name of a case.
+SHOWN = 47
 
 
 @dataclass
@@ -86,7 +91,7 @@ def cases_of(path: str) -> list[Case]:
 
 
 def all_cases() -> list[Case]:
-    return [it for path in sorted(glob.glob(f"{kit.ROOT}/crates/{CRATE}/cases/*.md")) for it in cases_of(path)]
+    return [it for name in FILES for it in cases_of(f"{FOLDER}/{name}.md")]
 
 
 def run(case: Case, *program: str) -> tuple[bytes, bytes, int]:
@@ -96,35 +101,55 @@ def run(case: Case, *program: str) -> tuple[bytes, bytes, int]:
     return ran.stdout, ran.stderr, ran.returncode
 
 
-def find_program(is_built: bool) -> Optional[str]:
-    """Where the program is that runs the cases, or None if it can't be built."""
+def names_of(cases: Iterable[Case]) -> list[str]:
+    """The names of the cases of a file: the command of each, whose input is cut if it is long, and its number if there
+    are more of the same."""
+    counts: Counter[str] = Counter()
+    found = []
+    for it in cases:
+        words, _, given = re.sub("[,:/]", "_", it.command).partition("<")
+        given = " ".join(given.split())
+        short = f"{given[:SHOWN]}.. {len(it.input())} bytes" if len(given) > SHOWN + 9 else given
+        name = f"{words.strip() or 'no words'} < {short}".removesuffix(" < ")
+        counts[name] += 1
+        found.append(name if counts[name] == 1 else f"{name} again {counts[name]}")
+    return found
+
+
+@frame.once
+def program(is_built: bool) -> str:
+    """Where the program is that runs the cases."""
     if not is_built and not assembler.are_of(CRATE, products.code_of(CRATE)):
         print("cases: the sources changed, so the program is built of them, unproved", flush=True)
-        return unproved.build_once(CRATE)
-    ran = kit.run([f"{kit.ROOT}/{CRATE}", "--path"], stderr=None)
-    return None if ran.returncode else ran.stdout.strip()
+        found = unproved.build_once(CRATE)
+        assert found, f"no {CRATE} is built"
+        return found
+    return frame.must([f"{kit.ROOT}/{CRATE}", "--path"], stderr=None).strip()
 
 
-def tell(case: Case, came: tuple[bytes, bytes, int]) -> None:
-    print(f"{case.place}: {CRATE} {case.command}\n  prints")
-    for line in [*lines_of(came[0]), *lines_of(came[1]), f"[{came[2]}]"]:
-        print(f"    {line}")
+class Cases(frame.Check):
+    """Each case of a file is a part."""
+
+    is_built = False
+
+    @frame.each(FILES)
+    @frame.needs("cc")
+    def test_file(self, name: str) -> None:
+        cases = cases_of(f"{FOLDER}/{name}.md")
+        at = program(self.is_built)
+        for label, case in zip(names_of(cases), cases):
+            came = run(case, at)
+            self.part(label, case.is_met(*came), what_came(case, came))
+
+
+def what_came(case: Case, came: tuple[bytes, bytes, int]) -> str:
+    """What a case says that isn't met."""
+    lines = [*lines_of(came[0]), *lines_of(came[1]), f"[{came[2]}]"]
+    return "\n".join([f"{case.place}: {CRATE} {case.command}", "  prints", *(f"    {it}" for it in lines)])
 
 
 def main(words: list[str]) -> int:
     if words not in ([], ["--built"]):
-        return frame.usage(__doc__, words)
-    cases = all_cases()
-    program = find_program(bool(words))
-    if not program:
-        print(f"cases: no {CRATE} is built")
-        print(f"0 passed, {len(cases)} failed")
-        return 1
-    failed = 0
-    for case in cases:
-        came = run(case, program)
-        if not case.is_met(*came):
-            failed += 1
-            tell(case, came)
-    print(f"{len(cases) - failed} passed, {failed} failed")
-    return 1 if failed or not cases else 0
+        return frame.usage(__doc__)
+    Cases.is_built = bool(words)
+    return frame.check("cases", [Cases], section="cases")

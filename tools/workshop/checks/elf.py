@@ -2,6 +2,7 @@
 
     tools/compare-elf               compiles small sources in many ways, and compares all units, tables, strings and sets
     tools/compare-elf FILE..        compares these files instead
+    tools/compare-elf CHECK..       makes the checks with these names alone, such as `Files.listed/gcc5`
 
 The sources are in C, C++ and Rust, in DWARF 2 to 5, in both formats, plain, compressed, split, packed, linked, and
 linked to one relocatable file, for ten machines. The tool is built for that without a network, and its package's tests
@@ -9,9 +10,9 @@ are run, which have malformed files: by the cargo that is found first, and by De
 compared with their members and whole files, and the strings of string offsets with all strings. At the end are files
 with units of two versions, and those that could take much memory.
 
-A line is printed for each check that fails, and for each thing that is skipped because a compiler or another program
-isn't installed; without llvm-dwarfdump all is skipped. The last line is `N passed, M failed, K skipped`, and the exit
-status is 0 if nothing failed, 1 if something did, and 2 for a wrong command line.
+A line is printed for each check, with how many units, tables, strings and sets it compared. What can't be made because
+a compiler or another program isn't installed is skipped. The last line is `N passed, M failed, K skipped`, and the exit status is 0 if nothing failed,
+1 if something did, and 2 for a wrong command line.
 """
 import itertools
 import os
@@ -23,7 +24,7 @@ import subprocess
 import sys
 import tempfile
 from collections import Counter
-from collections.abc import Callable, Iterator, Sequence
+from collections.abc import Callable, Iterable, Iterator, Sequence
 from typing import Optional, Union
 
 from workshop import frame, kit
@@ -98,11 +99,11 @@ def measured(*words: Word) -> tuple[int, str, str, int]:
 # What llvm-dwarfdump prints, by section, in the lines of dwarf_elf.
 
 
-def of_llvm(path: Word, dumper: str) -> dict[str, str]:
+def of_llvm(path: Word) -> dict[str, str]:
     """The sections that llvm-dwarfdump prints: the text of each by its name."""
     kinds = ("info", "types", "abbrev", "str", "line-str", "str-offsets", "addr")
     words = [f"--debug-{it}" for it in kinds]
-    ran = subprocess.run([dumper, *words, path], capture_output=True, text=True, errors="surrogateescape", check=False)
+    ran = subprocess.run([dumper(), *words, path], capture_output=True, text=True, errors="surrogateescape")
     parts = re.split(r"^(\.debug\S*) contents:\n", ran.stdout, flags=re.M)
     found: dict[str, str] = {}
     for name, text in zip(parts[1::2], parts[2::2]):
@@ -196,28 +197,42 @@ COMMANDS: dict[str, tuple[str, Callable[[str], str], Callable[[str], Iterator[st
 }
 
 
-class Comparison(frame.Checks):
-    """The checks, of which only those that fail are printed."""
+class OfTool(frame.Check):
+    """What the checks of the tool share. A check makes many comparisons, of which one that fails doesn't end it."""
 
-    def __init__(self, work: str) -> None:
-        super().__init__("compare-elf", work, tells_all=False)
-        self.folder = pathlib.Path(work)
-        self.dumper = ""
+    def setUp(self) -> None:
+        super().setUp()
+        build()
+        self.faults: list[str] = []
 
-    def make(self, name: str, command: str) -> list[pathlib.Path]:
-        """Runs a command of the shell in a new folder of this name. Returns the files that it makes, if it can."""
-        program = command.split()[0]
-        if not self.has(name, program):
-            return []
-        folder = self.folder / name
-        folder.mkdir()
-        words = ["timeout", "30", "sh", "-c", command]
-        ran = subprocess.run(words, cwd=folder, capture_output=True, text=True, errors="replace")
-        if ran.returncode:
-            why = (ran.stderr.strip().splitlines() or ["no reason given"])[0]
-            self.skip(name, f"{program} fails with status {ran.returncode}: {why:.100}")
-            return []
-        return sorted(folder.iterdir())
+    def tearDown(self) -> None:
+        self.assertEqual(self.faults, [])
+
+    def tell(self, well: object, what: str) -> bool:
+        """Counts a comparison, and keeps what it says of a fault."""
+        self.count += 1
+        if not well:
+            self.faults.append(what)
+        return bool(well)
+
+    def equal(self, what: str, here: str, there: str) -> int:
+        """Compares two texts, and says which line is the first to differ. Returns how many tables, strings or sets
+        that was."""
+        pairs = itertools.zip_longest(here.split("\n"), there.split("\n"))
+        one = next((it for it in pairs if it[0] != it[1]), None)
+        self.tell(not one, f"{what}: {one and one[0]!r:.200} here, {one and one[1]!r:.200} there")
+        return len(re.findall("^(?:unit|table|set|0x)", here, re.M))
+
+
+class OfFiles(OfTool):
+    """Compares what is listed of files with what the other tools print."""
+
+    def compare_all(self, files: Iterable[tuple[str, Word]]) -> None:
+        """Compares files, each after its name, and notes how much was compared."""
+        compared: Counter[str] = Counter()
+        for name, path in files:
+            compared += self.compare(name, path)
+        self.note = ", ".join(f"{compared[it]} {it}" for it in [*COMMANDS, "strings of readelf"] if compared[it])
 
     def compare(self, name: str, path: Word) -> Counter[str]:
         """Compares all that both print of a file. Returns how much that was."""
@@ -225,7 +240,7 @@ class Comparison(frame.Checks):
         status, text, errors = tool(path, "sections")
         self.tell(status == 0 and not errors, f"{name}: sections (status {status}) {errors.strip()}")
         names = [line.split()[0] for line in text.splitlines()[:-1]]
-        there = of_llvm(path, self.dumper)
+        there = of_llvm(path)
         for command, (base, plain, read) in COMMANDS.items():
             own = [it for it in dict.fromkeys(names) if re.fullmatch(rf"\.{base}(?:\.dwo)?", it)]
             if not own:
@@ -241,26 +256,34 @@ class Comparison(frame.Checks):
                 compared["strings of readelf"] += self.readelf(name, path, here.get(".debug_str", ""))
         return compared
 
-    def equal(self, what: str, here: str, there: str) -> int:
-        """Compares two texts, and says which line is the first to differ. Returns how many tables, strings or sets
-        that was."""
-        pairs = itertools.zip_longest(here.split("\n"), there.split("\n"))
-        one = next((it for it in pairs if it[0] != it[1]), None)
-        self.tell(not one, f"{what}: {one and one[0]!r:.200} here, {one and one[1]!r:.200} there")
-        return len(re.findall("^(?:unit|table|set|0x)", here, re.M))
-
     def readelf(self, name: str, path: Word, here: str) -> int:
         """Each string that readelf prints has its offset and its text. Both rewrite what isn't printable."""
         text = output("readelf", "-W", "-z", "-p", ".debug_str", path) if shutil.which("readelf") else None
         if text is None:
-            self.skip(f"{name}: the strings of readelf", "there is no readelf, or it knows no -z")
-            return 0
+            frame.skip("there is no readelf, or it knows no -z")
         rows = re.findall(r"^  \[ *([0-9a-f]+)\]  (.*)$", text, re.M)
         lines = {*here.split("\n")}
         plain = (f"0x{at}: {shown(it.encode())}" for at, it in rows if it.isascii() and not re.search(r"\^|\\n", it))
         wrong = [it for it in plain if it not in lines]
         self.tell(not wrong and rows, f"{name}: strings that readelf prints: {wrong[:1]}")
         return len(rows)
+
+
+@frame.once
+def dumper() -> str:
+    """The name of llvm-dwarfdump here."""
+    found = next((it for it in ("llvm-dwarfdump", "llvm-dwarfdump-14") if shutil.which(it)), "")
+    return found or frame.skip("there is no llvm-dwarfdump; `apt-get install llvm` installs it on Debian")
+
+
+@frame.once
+def build() -> None:
+    """Builds the tool."""
+    frame.need("cargo")
+    for crate in CRATES:
+        if not any(REGISTRY.glob(f"{crate}-*")):
+            frame.skip(f"there is no crate {crate}; `apt-get install librust-{crate}-dev` installs it on Debian")
+    frame.must([OFFLINE, "build", "--quiet", "--release"])
 
 
 # The files that are compared. A command runs in the folder of its file, which is next to those of the others.
@@ -325,18 +348,63 @@ def commands() -> Iterator[tuple[str, str]]:
     yield "gcc-many", "gcc -c -gdwarf-5 ../many.c"
 
 
-def make_all(now: Comparison) -> list[tuple[str, Word]]:
-    """Makes the files that the compilers of this machine can make, each after its name."""
+# The command that makes each of these files.
+MADE = dict(commands())
+
+
+@frame.once
+def folder() -> pathlib.Path:
+    """The folder of the sources, and of the files that are made of them."""
+    at = pathlib.Path(frame.new_folder())
     for suffix, text in (("c", C_SOURCE), ("cc", CC_SOURCE)):
         for name, function in (("one", "main"), ("two", "two")):
-            (now.folder / f"{name}.{suffix}").write_text(text % function)
-    (now.folder / "five.rs").write_text(RUST_SOURCE)
+            (at / f"{name}.{suffix}").write_text(text % function)
+    (at / "five.rs").write_text(RUST_SOURCE)
     many = "".join(f"  value_of_the_enumeration_{it},\n" for it in range(20000))
-    (now.folder / "many.c").write_text(f"enum many {{\n{many}}} first;\n")
-    return [(f"{name}/{it.name}", it) for name, command in commands() for it in now.make(name, command)]
+    (at / "many.c").write_text(f"enum many {{\n{many}}} first;\n")
+    return at
 
 
-# Files that are made here.
+@frame.once
+def made(name: str, command: str) -> list[pathlib.Path]:
+    """The files that a command of the shell makes in a new folder of this name, next to those that it names. If it can't
+    be run here, the check is skipped."""
+    frame.need(command.split()[0])
+    for it in re.findall(r"\.\./([^/ ]+)/", command):
+        made(it, MADE[it])
+    at = folder() / name
+    at.mkdir()
+    words = ["timeout", "30", "sh", "-c", command]
+    ran = subprocess.run(words, cwd=at, capture_output=True, text=True, errors="replace")
+    if ran.returncode:
+        why = (ran.stderr.strip().splitlines() or ["no reason given"])[0]
+        frame.skip(f"{command.split()[0]} fails with status {ran.returncode}: {why:.100}")
+    return sorted(at.iterdir())
+
+
+def file_of(name: str) -> pathlib.Path:
+    """A file that a command makes, named by its folder and its name there."""
+    at = name.partition("/")[0]
+    found = {f"{at}/{it.name}": it for it in made(at, MADE[at])}
+    assert name in found, f"{name} isn't made"
+    return found[name]
+
+
+class Files(OfFiles):
+    """What is listed of each file is what the other tools print."""
+
+    @frame.each(MADE)
+    def test_listed(self, name: str) -> None:
+        self.compare_all((f"{name}/{it.name}", it) for it in made(name, MADE[name]))
+
+
+class Given(OfFiles):
+    """The same for the files that the command line names."""
+
+    paths: list[str] = []
+
+    def test_files(self) -> None:
+        self.compare_all((it, it) for it in self.paths)
 
 
 class Good:
@@ -360,14 +428,16 @@ class Good:
         return bytes(data)
 
 
-def check_unnamed(now: Comparison) -> None:
-    """Units of a split section that objects share name the first table alone, and a line says which bytes none names.
-    --all lists the tables there, as llvm-dwarfdump does."""
-    what = "tables besides those that units name"
-    flags = "clang -c -gdwarf-5 -gsplit-dwarf=single"
-    made = now.make(what, f"{flags} ../one.c && {flags} ../two.c && ld -r one.o two.o -o whole.o")
-    for path in (it for it in made if it.name == "whole.o"):
-        wanted = "".join(f"{it}\n" for it in llvm_tables(of_llvm(path, now.dumper)[".debug_abbrev.dwo"]))
+class Listings(OfTool):
+    """What is listed beyond the sections of a file: archives, debug files, strings of offsets, tables of no unit."""
+
+    def test_unnamed_tables(self) -> None:
+        """Units of a split section that objects share name the first table alone, and a line says which bytes none
+        names. --all lists the tables there, as llvm-dwarfdump does."""
+        flags = "clang -c -gdwarf-5 -gsplit-dwarf=single"
+        command = f"{flags} ../one.c && {flags} ../two.c && ld -r one.o two.o -o whole.o"
+        path = next(it for it in made("unnamed tables", command) if it.name == "whole.o")
+        wanted = "".join(f"{it}\n" for it in llvm_tables(of_llvm(path)[".debug_abbrev.dwo"]))
         _, start, *others = re.findall(r"^table 0x(\w+):", wanted, re.M) + [""]
         (number, _, size), section = Good(path).sections[".debug_abbrev.dwo"], "section {} .debug_abbrev.dwo"
         said = f"dwarf_elf: no unit names the bytes from 0x{start} to 0x{size:x} of {section.format(number)}"
@@ -376,46 +446,65 @@ def check_unnamed(now: Comparison) -> None:
         for options, listed, noted in (((), first, said + hint), (("--all",), wanted, said)):
             status, text, errors = tool(path, "abbrev", *options)
             here = by_section(text, [])[".debug_abbrev.dwo"]
-            now.tell((status, errors) == (0, f"{noted}\n"), f"{what}: status {status}: {errors:.300}")
-            now.equal(f"{what} {options}", here, listed)
+            self.tell((status, errors) == (0, f"{noted}\n"), f"status {status}: {errors:.300}")
+            self.equal(f"{options}", here, listed)
 
+    @frame.each(("rc", "rcT"))
+    def test_archive(self, kind: str) -> None:
+        """The members of an archive, or of a thin one, are listed as the files are."""
+        objects = [file_of(it) for it in ("gcc5/one.o", "gcc5-two/two.o")]
+        [archive] = made(f"archive {kind}", f"ar {kind} all.a ../gcc5/one.o ../gcc5-two/two.o")
+        # A thin archive has the paths of its members.
+        names = [os.path.relpath(it, archive.parent) if kind == "rcT" else it.name for it in objects]
+        wanted = "".join(f"file {archive}({it}):\n{tool(path, 'str')[1]}" for it, path in zip(names, objects))
+        self.tell(tool(archive, "str") == (0, wanted, ""), "another listing")
 
-def check_archives(now: Comparison) -> None:
-    """The members of an archive are listed as the files are."""
-    objects = [now.folder / it for it in ("gcc5/one.o", "gcc5-two/two.o")]
-    if not all(it.is_file() for it in objects):
-        now.skip("archives", "the objects aren't there")
-        return
-    for name, kind in (("archive", "rc"), ("thin archive", "rcT")):
-        for archive in now.make(name, f"ar {kind} all.a ../gcc5/one.o ../gcc5-two/two.o"):
-            # A thin archive has the paths of its members.
-            names = [os.path.relpath(it, archive.parent) if kind == "rcT" else it.name for it in objects]
-            wanted = "".join(f"file {archive}({it}):\n{tool(path, 'str')[1]}" for it, path in zip(names, objects))
-            now.tell(tool(archive, "str") == (0, wanted, ""), name)
-
-
-def check_stripped(now: Comparison) -> None:
-    """The debug file of a stripped file is listed on request."""
-    link = "objcopy --only-keep-debug ../gcc5-linked/whole whole.debug && strip -o whole ../gcc5-linked/whole"
-    for path in now.make("a stripped file", f"{link} && objcopy --add-gnu-debuglink=whole.debug whole")[:1]:
+    @frame.needs("objcopy", "strip")
+    def test_stripped(self) -> None:
+        """The debug file of a stripped file is listed on request."""
+        link = "objcopy --only-keep-debug ../gcc5-linked/whole whole.debug && strip -o whole ../gcc5-linked/whole"
+        path = made("stripped", f"{link} && objcopy --add-gnu-debuglink=whole.debug whole")[0]
         status, text, errors = tool(path, "--follow", "abbrev")
         well = status == 0 and f"{path}.debug is listed" in errors
-        well = well and text == tool(now.folder / "gcc5-linked/whole", "abbrev")[1]
-        now.tell(well, f"its debug file: status {status}: {errors:.300}")
+        well = well and text == tool(file_of("gcc5-linked/whole"), "abbrev")[1]
+        self.tell(well, f"its debug file: status {status}: {errors:.300}")
 
-
-def check_strings(now: Comparison) -> None:
-    """Each string offset has the string that is there, and one string is listed as all are."""
-    names = ("g++5/one.o", "g++5-types/one.o", "clang5-split/one.dwo", "clang4-split/one.dwo", "rustc-linked/five")
-    for name in (it for it in names if (now.folder / it).is_file()):
-        lines = tool(now.folder / name, "str")[1].splitlines()
+    @frame.each(("g++5 one.o", "g++5-types one.o", "clang5-split one.dwo", "clang4-split one.dwo", "rustc-linked five"))
+    def test_strings(self, name: str) -> None:
+        """Each string offset has the string that is there, and one string is listed as all are."""
+        path = file_of(name.replace(" ", "/"))
+        lines = tool(path, "str")[1].splitlines()
         strings = {f"  {it.partition(':')[0]}": f"  {it}" for it in lines}
         last = lines[-1].partition(":")[0]
-        one = tool(now.folder / name, "str", last)
-        now.tell(one == (0, f"{lines[-1]}\n", ""), f"{name}: str {last}: {one}")
-        plain = tool(now.folder / name, "str-offsets")[1]
+        one = tool(path, "str", last)
+        self.tell(one == (0, f"{lines[-1]}\n", ""), f"str {last}: {one}")
+        plain = tool(path, "str-offsets")[1]
         wanted = "".join(f"{strings.get(it, it)}\n" for it in plain.splitlines())
-        now.equal(f"{name}: str-offsets --strings", tool(now.folder / name, "str-offsets", "--strings")[1], wanted)
+        self.equal("str-offsets --strings", tool(path, "str-offsets", "--strings")[1], wanted)
+
+    @frame.each(("5", "4", "4 split"))
+    @frame.needs("gcc")
+    def test_mixed_units(self, row: str) -> None:
+        """An executable of units of DWARF 5, another version and 5 is listed if each set has a header: if all are of
+        version 5, or that of version 4 isn't split. Else nothing says which bytes are whose, and a line says that none
+        are listed."""
+        parts = ("main", "next", "last")
+        flags = {"5": "-gdwarf-5 -gsplit-dwarf", "4": "-gdwarf-4", "4 split": "-gdwarf-4 -gsplit-dwarf"}[row]
+        own = dict.fromkeys(parts, "-gdwarf-5 -gsplit-dwarf") | {"next": flags}
+        objects = [f"gcc -c {own[part]} ../two.c -Dtwo={part} -o {part}.o" for part in parts]
+        files = made(f"mixed {row}", " && ".join([*objects, "gcc main.o next.o last.o -o whole"]))
+        path = next(it for it in files if it.name == "whole")
+        status, text, errors = tool(path, "addr")
+        if row != "4 split":
+            there = "".join(f"{it}\n" for it in llvm_addresses(of_llvm(path)[".debug_addr"]))
+            self.equal(row, tool_addresses(text), there)
+            self.tell(status == 0 and not errors, f"status {status}: {errors:.300}")
+            return
+        said = f"the bytes from 0x0 to 0x{Good(path).sections['.debug_addr'][2]:x} aren't listed"
+        self.tell(status == 1 and not text and said in errors, f"status {status}: {errors:.300}")
+        for stream in ("2>&-", "2>/dev/full"):
+            ran = redirected(stream, path, "addr")
+            self.tell(ran.returncode == 1 and not ran.stdout, f"{stream}: status {ran.returncode}")
 
 
 def redirected(stream: str, *words: Word) -> kit.Finished:
@@ -423,40 +512,45 @@ def redirected(stream: str, *words: Word) -> kit.Finished:
     return subprocess.run(["sh", "-c", f'"$@" {stream}', "sh", *TOOL, *words], capture_output=True, text=True)
 
 
-def check_words(now: Comparison) -> None:
+class Statuses(OfTool):
     """The statuses of the process, and an output that can't be written."""
-    many = now.folder / "gcc-many/many.o"
-    rows: list[tuple[list[Word], int]] = [(["--help"], 0), (["--version"], 0), ([], 2), (["--none", "a", "str"], 2)]
-    rows += [([now.folder / "none", "sections"], 3), (["--", "--help", "sections"], 3)]
-    for words, wanted in rows:
-        status, text, errors = tool(*words)
-        told = errors if wanted else text
-        now.tell(status == wanted and told and not (text and errors), f"dwarf_elf {words}: {status}: {errors:.300}")
-    version = pathlib.Path(f"{kit.ROOT}/VERSION").read_text(encoding="ascii").strip()
-    now.tell(tool("--version") == (0, f"dwarf_elf {version}\n", ""), "the version")
-    if not many.is_file():
-        now.skip("a reader that has enough", "the object with many strings isn't there")
-        return
-    alone = tool("str", many)
-    now.tell(alone[0] == 0 and alone == tool(many, "str"), "the command may come first")
-    streams: tuple[tuple[str, Word], ...] = (">&-", many), (">/dev/full", many), ("<&-", "-")
-    for stream, path in streams:
-        ran = redirected(stream, path, "str")
-        well = ran.returncode == 3 and ran.stderr.startswith("dwarf_elf: ")
-        now.tell(well, f"{stream}: status {ran.returncode}: {ran.stderr:.300}")
-    check_pipes(now, many)
 
+    def test_words(self) -> None:
+        rows: list[tuple[list[Word], int]] = [(["--help"], 0), (["--version"], 0), ([], 2), (["--none", "a", "str"], 2)]
+        rows += [([f"{self.work}/none", "sections"], 3), (["--", "--help", "sections"], 3)]
+        for words, wanted in rows:
+            status, text, errors = tool(*words)
+            told = errors if wanted else text
+            self.tell(status == wanted and told and not (text and errors), f"{words}: {status}: {errors:.300}")
 
-def check_pipes(now: Comparison, many: pathlib.Path) -> None:
-    """The tool and dwarf_list end as `cat` does if the reader of their output has enough of it, and say nothing."""
-    section = now.folder / "piped"
-    section.write_bytes(struct.pack("<IHBBQ", 12, 5, 8, 0, 1) * 10_000)
-    one = (output(f"{kit.ROOT}/dwarf_list", "--path") or "").strip()
-    rows: list[list[Word]] = [[*TOOL, many, "str"], ["cat", section]]
-    if now.tell(one, "./dwarf_list --path names the program"):
-        rows.append([one, "addr", "le"])
-    for words in rows:
-        with section.open("rb") as given:
+    def test_version(self) -> None:
+        self.assertEqual(tool("--version"), (0, f"dwarf_elf {kit.VERSION}\n", ""))
+
+    def test_command_first(self) -> None:
+        many = file_of("gcc-many/many.o")
+        alone = tool("str", many)
+        self.tell(alone[0] == 0 and alone == tool(many, "str"), "another listing")
+
+    def test_streams(self) -> None:
+        """An output that can't be written, and an input that can't be read."""
+        many = file_of("gcc-many/many.o")
+        streams: tuple[tuple[str, Word], ...] = (">&-", many), (">/dev/full", many), ("<&-", "-")
+        for stream, path in streams:
+            ran = redirected(stream, path, "str")
+            well = ran.returncode == 3 and ran.stderr.startswith("dwarf_elf: ")
+            self.tell(well, f"{stream}: status {ran.returncode}: {ran.stderr:.300}")
+
+    @frame.each(("dwarf_elf", "cat", "dwarf_list"))
+    def test_closed_pipe(self, name: str) -> None:
+        """The tool and dwarf_list end as `cat` does if the reader of their output has enough of it, and say nothing."""
+        section = f"{self.work}/piped"
+        kit.put(section, struct.pack("<IHBBQ", 12, 5, 8, 0, 1) * 10_000)
+        words: list[Word] = ["cat", section]
+        if name == "dwarf_elf":
+            words = [*TOOL, file_of("gcc-many/many.o"), "str"]
+        elif name == "dwarf_list":
+            words = [self.must([f"{kit.ROOT}/dwarf_list", "--path"]).strip(), "addr", "le"]
+        with open(section, "rb") as given:
             with subprocess.Popen(words, stdin=given, stdout=subprocess.PIPE, stderr=subprocess.PIPE) as child:
                 assert child.stdout and child.stderr
                 child.stdout.read(1)
@@ -464,219 +558,161 @@ def check_pipes(now: Comparison, many: pathlib.Path) -> None:
                 errors = child.stderr.read().decode()
         # A shell has this for a program that a signal ended.
         status = child.returncode if child.returncode >= 0 else 128 - child.returncode
-        now.tell(status == 141 and not errors, f"a closed pipe: {words[0]}: status {status}: {errors:.300}")
+        self.assertEqual((status, errors), (141, ""))
 
 
-def check_zstd(now: Comparison) -> None:
-    """LLVM's tools may lack this compression, so the file is compared with the one that isn't compressed. Without the
-    feature a line says so."""
-    made = now.make("sections compressed by zstd", "objcopy --compress-debug-sections=zstd ../g++5/one.o zstd.o")
-    if not made:
-        return
-    commands = ("abbrev", "str")
-    for command in commands:
-        status, text, errors = tool(made[0], command)
+class OfPackage(OfTool):
+    """What the checks of the tool's package share. A build leaves no link in a clone: `rt` proves nothing in one that
+    has any."""
+
+    def tearDown(self) -> None:
+        super().tearDown()
+        self.assertEqual([str(it) for it in pathlib.Path(f"{kit.ROOT}/elf").rglob("*") if it.is_symlink()], [])
+
+
+class Zstd(OfPackage):
+    """LLVM's tools may lack this compression, so the file is compared with the one that isn't compressed."""
+
+    COMMANDS = ("abbrev", "str")
+
+    def packed(self) -> pathlib.Path:
+        """A file whose sections are compressed by zstd."""
+        return made("zstd", "objcopy --compress-debug-sections=zstd ../g++5/one.o zstd.o")[0]
+
+    def test_without(self) -> None:
+        """Without the feature a line says that."""
         said = "is compressed by zstd, which this program can't inflate: it was built without the feature `zstd`\n"
-        now.tell(status == 1 and said in errors, f"without zstd: {command}: status {status}: {errors:.300}")
-    if not any(REGISTRY.glob("zstd-*")):
-        now.skip("zstd", "there is no crate zstd; `apt-get install librust-zstd-dev` installs it on Debian")
-        return
-    own = {**os.environ, **DEBIAN, "CARGO_TARGET_DIR": WITH_ZSTD}
-    if not now.run("the tool's tests with zstd", [OFFLINE, "test", "--quiet", "--features", "zstd"], env=own):
-        return
-    now.run("the tool with zstd", [OFFLINE, "build", "--quiet", "--release", "--features", "zstd"], env=own)
-    for command in commands:
-        ran = subprocess.run([f"{WITH_ZSTD}/release/dwarf_elf", made[0], command], capture_output=True, text=True)
-        plain = tool(now.folder / "g++5/one.o", command)[1]
-        now.tell(ran.returncode == 0 and ran.stdout == plain, f"zstd: {command}: {ran.stderr:.300}")
+        for command in self.COMMANDS:
+            status, text, errors = tool(self.packed(), command)
+            self.tell(status == 1 and said in errors, f"{command}: status {status}: {errors:.300}")
 
-
-def check_mixed(now: Comparison) -> None:
-    """An executable of units of DWARF 5, 4 and 5 is listed if each set has a header: if all are of version 5, or that
-    of version 4 isn't split. Else nothing says which bytes are whose, and a line says that none are listed."""
-    what = "units of two versions"
-    parts = ("main", "next", "last")
-    for name, flags in (("5", "-gdwarf-5 -gsplit-dwarf"), ("4", "-gdwarf-4"), ("4, split", "-gdwarf-4 -gsplit-dwarf")):
-        own = dict.fromkeys(parts, "-gdwarf-5 -gsplit-dwarf") | {"next": flags}
-        objects = [f"gcc -c {own[part]} ../two.c -Dtwo={part} -o {part}.o" for part in parts]
-        name = f"{what}: {name}"
-        if not now.make(name, " && ".join([*objects, "gcc main.o next.o last.o -o whole"])):
-            return
-        path = now.folder / name / "whole"
-        status, text, errors = tool(path, "addr")
-        if "4, split" not in name:
-            there = "".join(f"{it}\n" for it in llvm_addresses(of_llvm(path, now.dumper)[".debug_addr"]))
-            now.equal(name, tool_addresses(text), there)
-            now.tell(status == 0 and not errors, f"{name}: status {status}: {errors:.300}")
-            continue
-        size = Good(path).sections[".debug_addr"][2]
-        said = f"the bytes from 0x0 to 0x{size:x} aren't listed"
-        now.tell(status == 1 and not text and said in errors, f"{name}: status {status}: {errors:.300}")
-        for stream in ("2>&-", "2>/dev/full"):
-            ran = redirected(stream, path, "addr")
-            now.tell(ran.returncode == 1 and not ran.stdout, f"{stream}: status {ran.returncode}")
-
-
-def assembled(now: Comparison, what: str, sections: dict[str, bytes]) -> list[pathlib.Path]:
-    """An object with these bytes in its debug sections."""
-    for name, data in sections.items():
-        (now.folder / name).write_bytes(data)
-    source = "".join(f'.section .debug_{it},"",@progbits\n.incbin "../{it}"\n' for it in sections)
-    (now.folder / "many.s").write_text(source)
-    return now.make(what, "as ../many.s -o many.o")
-
-
-def check_large(now: Comparison) -> None:
-    """A file with a section of 2 GiB, which is a hole: what doesn't need it takes little memory."""
-    good = now.folder / "gcc5-linked/whole"
-    large = now.folder / "large"
-    if not good.is_file():
-        now.skip("a large file", "the good one isn't there")
-        return
-    it = Good(good)
-    with large.open("wb") as file:
-        file.write(it.with_section(".debug_line", len(it.data), 1 << 31))
-        file.truncate(len(it.data) + (1 << 31))
-    status, text, errors, kilobytes = measured(large, "abbrev")
-    now.tell((status, text, errors) == (0, tool(good, "abbrev")[1], ""), f"a large file: status {status}: {errors:.300}")
-    now.tell(kilobytes < KILOBYTES, f"a large file: {kilobytes} kB of memory")
-
-
-def check_inflated(now: Comparison) -> None:
-    """24 KB that inflate to 2,000,000 units of one table take the memory of their section."""
-    units = struct.pack("<IHBBI", 8, 5, 1, 8, 0) * 2_000_000
-    for path in assembled(now, "two million units", {"info": units, "abbrev": b"\0"}):
-        packed = now.folder / "packed"
-        now.run("compressed units", ["objcopy", "--compress-debug-sections=zlib-gabi", str(path), str(packed)])
-        status, text, errors, kilobytes = measured(packed, "abbrev")
-        now.tell((status, text, errors) == (0, "table 0x0:\n", ""), f"compressed units: status {status}: {errors:.300}")
-        now.tell(kilobytes < len(units) // 1024 + KILOBYTES, f"compressed units: {kilobytes} kB of memory")
-
-
-def check_memory(now: Comparison) -> None:
-    """Memory that runs out is an error with status 1, and no end by a signal: for a section, and for all else."""
-    units = b"".join(struct.pack("<IHBBI", 8, 5, 1, 8, it) for it in range(2_000_000))
-    rows = (
-        ("a large section", {"str": bytes(50 << 20)}, "str", 45_000, "section 4 .debug_str isn't read: memory ran out"),
-        ("two million tables", {"info": units, "abbrev": b"\0" * 2_000_000}, "abbrev", 48_000, "memory ran out"),
-    )
-    for what, sections, command, limit, said in rows:
-        for path in assembled(now, what, sections):
-            packed = now.folder / "packed"
-            now.run(f"{what}, packed", ["objcopy", "--compress-debug-sections=zlib-gabi", str(path), str(packed)])
-            words: list[Word] = ["sh", "-c", f'ulimit -v {limit}; "$@"', "sh", *TOOL, packed, command]
+    def test_with(self) -> None:
+        if not any(REGISTRY.glob("zstd-*")):
+            frame.skip("there is no crate zstd; `apt-get install librust-zstd-dev` installs it on Debian")
+        own = {**os.environ, **DEBIAN, "CARGO_TARGET_DIR": WITH_ZSTD}
+        self.must([OFFLINE, "test", "--quiet", "--features", "zstd"], env=own)
+        self.must([OFFLINE, "build", "--quiet", "--release", "--features", "zstd"], env=own)
+        for command in self.COMMANDS:
+            words: list[Word] = [f"{WITH_ZSTD}/release/dwarf_elf", self.packed(), command]
             ran = subprocess.run(words, capture_output=True, text=True)
-            well = (ran.returncode, ran.stderr) == (1, f"dwarf_elf: {said}\n")
-            now.tell(well, f"{what}: status {ran.returncode}: {ran.stderr:.300}")
+            plain = tool(file_of("g++5/one.o"), command)[1]
+            self.tell(ran.returncode == 0 and ran.stdout == plain, f"{command}: {ran.stderr:.300}")
 
 
-def check_locked(now: Comparison) -> None:
-    """README's line for a network, over Debian's crates with the checksums that the lock file has for them. With the
-    feature for zstd it says which line adds that crate."""
-    lock = pathlib.Path(f"{kit.ROOT}/elf/Cargo.lock").read_text(encoding="ascii")
-    registry = now.folder / "registry"
+class Memory(OfTool):
+    """What a file takes of memory."""
+
+    def packed(self, sections: dict[str, bytes]) -> str:
+        """An object with these bytes in its debug sections, compressed."""
+        for name, data in sections.items():
+            kit.put(f"{self.work}/{name}", data)
+        source = "".join(f'.section .debug_{it},"",@progbits\n.incbin "{it}"\n' for it in sections)
+        kit.put(f"{self.work}/many.s", source)
+        self.must(["as", "many.s", "-o", "many.o"])
+        self.must(["objcopy", "--compress-debug-sections=zlib-gabi", "many.o", "packed"])
+        return f"{self.work}/packed"
+
+    def test_large_file(self) -> None:
+        """A file with a section of 2 GiB, which is a hole: what doesn't need it takes little memory."""
+        good, large = file_of("gcc5-linked/whole"), pathlib.Path(f"{self.work}/large")
+        it = Good(good)
+        with large.open("wb") as file:
+            file.write(it.with_section(".debug_line", len(it.data), 1 << 31))
+            file.truncate(len(it.data) + (1 << 31))
+        status, text, errors, kilobytes = measured(large, "abbrev")
+        self.assertEqual((status, text, errors), (0, tool(good, "abbrev")[1], ""))
+        self.assertLess(kilobytes, KILOBYTES)
+
+    @frame.needs("as", "objcopy")
+    def test_compressed_units(self) -> None:
+        """24 KB that inflate to 2,000,000 units of one table take the memory of their section."""
+        units = struct.pack("<IHBBI", 8, 5, 1, 8, 0) * 2_000_000
+        status, text, errors, kilobytes = measured(self.packed({"info": units, "abbrev": b"\0"}), "abbrev")
+        self.assertEqual((status, text, errors), (0, "table 0x0:\n", ""))
+        self.assertLess(kilobytes, len(units) // 1024 + KILOBYTES)
+
+    # The sections of a file, a command, the memory that it gets, and what it says.
+    ROWS: dict[str, tuple[Callable[[], dict[str, bytes]], str, int, str]] = {
+        "section": (
+            lambda: {"str": bytes(50 << 20)},
+            "str",
+            45_000,
+            "section 4 .debug_str isn't read: memory ran out",
+        ),
+        "tables": (
+            lambda: {
+                "info": b"".join(struct.pack("<IHBBI", 8, 5, 1, 8, it) for it in range(2_000_000)),
+                "abbrev": b"\0" * 2_000_000,
+            },
+            "abbrev",
+            48_000,
+            "memory ran out",
+        ),
+    }
+
+    @frame.each(ROWS)
+    @frame.needs("as", "objcopy")
+    def test_memory_runs_out(self, row: str) -> None:
+        """Memory that runs out is an error with status 1, and no end by a signal: for a section, and for all else."""
+        sections, command, limit, said = self.ROWS[row]
+        words: list[Word] = ["sh", "-c", f'ulimit -v {limit}; "$@"', "sh", *TOOL, self.packed(sections()), command]
+        ran = subprocess.run(words, capture_output=True, text=True)
+        self.assertEqual((ran.returncode, ran.stderr), (1, f"dwarf_elf: {said}\n"))
+
+
+def registry(folder: str) -> str:
+    """A registry of Debian's crates with the checksums that the lock file has for them."""
+    lock = kit.text_of(f"{kit.ROOT}/elf/Cargo.lock")
     for name, version, checksum in re.findall(r'name = "(.*)"\nversion = "(.*)"\nsource = .*\nchecksum = "(.*)"', lock):
         crate = REGISTRY / f"{name}-{version}"
         if not crate.is_dir():
-            now.skip("the tool by its lock file", f"there is no crate {crate.name}")
-            return
-        copy = registry / crate.name
-        copy.mkdir(parents=True)
+            frame.skip(f"there is no crate {crate.name}")
         for it in crate.iterdir():
-            (copy / it.name).symlink_to(it)
-        (copy / ".cargo-checksum.json").unlink()
-        (copy / ".cargo-checksum.json").write_text(f'{{"package":"{checksum}","files":{{}}}}')
-    sources = 'source.crates-io.replace-with="made"', f'source.made.directory="{registry}"'
-    words = ["cargo", "run", "--quiet", "--release", "--locked", "--offline", "--config", sources[0], "--config", sources[1]]
-    own = {**os.environ, "CARGO_TARGET_DIR": f"{kit.ROOT}/elf/target/locked"}
-    now.run("the tool by its lock file", [*words, "--", "--version"], cwd=f"{kit.ROOT}/elf", env=own)
-    ran = kit.run([*words, "--features", "zstd"], cwd=f"{kit.ROOT}/elf", env=own)
-    said = "needs the crate zstd: `elf/offline build --release --features zstd` adds Debian's"
-    now.tell(ran.returncode and said in ran.stdout, f"the feature zstd without its crate: {ran.stdout:.300}")
+            if it.name != ".cargo-checksum.json":
+                os.makedirs(f"{folder}/{crate.name}", exist_ok=True)
+                os.symlink(it, f"{folder}/{crate.name}/{it.name}")
+        kit.put(f"{folder}/{crate.name}/.cargo-checksum.json", f'{{"package":"{checksum}","files":{{}}}}')
+    return folder
 
 
-def check_package(now: Comparison) -> None:
-    """The package's tests, which check for overflow, and that its code is laid out and has no warning. Debian's cargo
-    builds it, too."""
-    tests = [OFFLINE, "test", "--quiet"]
-    now.run("the tool's tests", tests)
-    if now.has("the tool by Debian's rustc", DEBIAN["CARGO"], DEBIAN["RUSTC"]):
-        now.run("the tool's tests by Debian's rustc", tests, env={**os.environ, **DEBIAN})
-    check_locked(now)
-    if now.has("cargo fmt", "cargo-fmt"):
-        now.run("the tool's layout", ["cargo", "fmt", "--check"], cwd=f"{kit.ROOT}/elf")
-    if now.has("cargo clippy", "cargo-clippy"):
-        now.run("cargo clippy", [OFFLINE, "clippy", "--quiet", "--all-targets", "--", "-D", "warnings"])
+class Crate(OfPackage):
+    """The tool's package: its tests, which check for overflow, its layout, and that Debian's cargo builds it, too."""
 
+    def test_tests(self) -> None:
+        self.must([OFFLINE, "test", "--quiet"])
 
-def check_links(now: Comparison) -> None:
-    """The builds leave no link in a clone: `rt` proves nothing in one that has any."""
-    links = [str(it) for it in pathlib.Path(f"{kit.ROOT}/elf").rglob("*") if it.is_symlink()]
-    now.tell(not links, f"links in a clone: {', '.join(links)}")
+    @frame.needs(DEBIAN["CARGO"], DEBIAN["RUSTC"])
+    def test_by_debian(self) -> None:
+        self.must([OFFLINE, "test", "--quiet"], env={**os.environ, **DEBIAN})
 
+    def test_locked(self) -> None:
+        """README's line for a network, over Debian's crates. With the feature for zstd it says which line adds that
+        crate."""
+        at = registry(f"{self.work}/registry")
+        sources = 'source.crates-io.replace-with="made"', f'source.made.directory="{at}"'
+        words = ["cargo", "run", "--quiet", "--release", "--locked", "--offline"]
+        words += [word for it in sources for word in ("--config", it)]
+        own = {**os.environ, "CARGO_TARGET_DIR": f"{kit.ROOT}/elf/target/locked"}
+        self.must([*words, "--", "--version"], cwd=f"{kit.ROOT}/elf", env=own)
+        ran = kit.run([*words, "--features", "zstd"], cwd=f"{kit.ROOT}/elf", env=own)
+        said = "needs the crate zstd: `elf/offline build --release --features zstd` adds Debian's"
+        self.assertNotEqual(ran.returncode, 0)
+        self.assertIn(said, ran.stdout)
 
-# How many checks are made of the files of a whole run where nothing has to be skipped.
-CHECKS = 2021
-PARTS = (
-    check_package,
-    check_unnamed,
-    check_archives,
-    check_stripped,
-    check_strings,
-    check_words,
-    check_zstd,
-    check_mixed,
-    check_large,
-    check_inflated,
-    check_memory,
-    check_links,
-)
+    @frame.needs("cargo-fmt")
+    def test_layout(self) -> None:
+        self.must(["cargo", "fmt", "--check"], cwd=f"{kit.ROOT}/elf")
 
-
-def compare_all(now: Comparison, paths: list[str]) -> None:
-    """Compares files, those given or those that are made here."""
-    files: list[tuple[str, Word]] = [(path, path) for path in paths]
-    if not files:
-        files = make_all(now)
-    compared: Counter[str] = Counter()
-    for it in kit.side_by_side(os.cpu_count() or 1, [(now.compare, *file) for file in files]):
-        compared.update(it)
-    if not paths:
-        for part in PARTS:
-            part(now)
-    counts = ", ".join(f"{compared[it]} {it}" for it in [*COMMANDS, "strings of readelf"] if compared[it])
-    print(f"compare-elf: {len(files)} files; compared: {counts}")
-
-
-def why_not_built(now: Comparison) -> str:
-    """Builds the tool. Returns why it can't be, or nothing."""
-    if not shutil.which("cargo"):
-        return "there is no cargo"
-    for crate in CRATES:
-        if not any(REGISTRY.glob(f"{crate}-*")):
-            return f"there is no crate {crate}; `apt-get install librust-{crate}-dev` installs it on Debian"
-    now.run("the tool", [OFFLINE, "build", "--quiet", "--release"])
-    return ""
-
-
-def run(now: Comparison, paths: list[str]) -> int:
-    """Compares what can be compared here, and returns the exit status."""
-    now.dumper = next((it for it in ("llvm-dwarfdump", "llvm-dwarfdump-14") if shutil.which(it)), "")
-    why = "" if now.dumper else "there is no llvm-dwarfdump; `apt-get install llvm` installs it on Debian"
-    why = why or why_not_built(now)
-    if why:
-        now.skip("all of it", why)
-    elif not now.failed:
-        compare_all(now, paths)
-    if now.skipped and not paths:
-        # How many checks a file has that isn't there depends on its sections.
-        left = CHECKS - now.passed - now.failed - now.skipped
-        now.skip("what else needs these", "they aren't there", max(0, left))
-    return now.end(None if paths else CHECKS)
+    @frame.needs("cargo-clippy")
+    def test_clippy(self) -> None:
+        self.must([OFFLINE, "clippy", "--quiet", "--all-targets", "--", "-D", "warnings"])
 
 
 def main(words: list[str]) -> int:
     if any(it.startswith("-") for it in words):
-        return frame.usage(__doc__, words)
-    with tempfile.TemporaryDirectory(prefix="compare-elf-") as work:
-        return run(Comparison(work), words)
+        return frame.usage(__doc__)
+    if words and all(map(os.path.isfile, words)):
+        Given.paths = words
+        return frame.check("compare-elf", [Given])
+    classes = [Files, Listings, Statuses, Zstd, Memory, Crate]
+    return frame.check("compare-elf", classes, words, section="compare-elf")

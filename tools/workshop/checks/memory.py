@@ -18,14 +18,12 @@ status 1. That it then writes nothing is proved. The example in C, `examples/c/d
 file, on a table and on an error: this shows that `dwarf_read_heap.c` tells the library of each refusal. Tests that
 aren't built from these sources are named, and counted as skipped.
 
-A line is printed for each test and program, with the number of its requests. The last line is
-`N passed, M failed, K skipped`. The exit status is 0 if none failed, 1 if one did, and 2 for a wrong command line.
+The last line is `N passed, M failed, K skipped`. The exit status is 0 if none failed, 1 if one did, and 2 for a wrong
+command line.
 """
 import os
 import re
 import subprocess
-import sys
-import tempfile
 from collections.abc import Callable
 
 from workshop import frame, kit
@@ -45,22 +43,23 @@ WANTED = re.compile(r"^    wanted: (.*)", re.M)
 TEST = re.compile(r"^test (\S*\brefused_memory\w*) \.\.\. (.*)\n((?:    .*\n)*)", re.M)
 
 
-def tests() -> dict[str, int]:
-    """How many tests of refused memory each crate has that has some."""
-    counts = {it: sum(text.count("fn refused_memory_") for _, text in kit.sources(it)) for it in kit.CRATES}
-    return {it: count for it, count in counts.items() if count}
-
-
 # What the example in C lists: a table whose codes don't rise, so that both forms of a table are used, and one that is cut.
 SHOWN = {
-    "a table": bytes.fromhex("03110103080000 022e0049130000 013400032156 0000 00"),
-    "an error": bytes.fromhex("0311010308"),
+    "table": bytes.fromhex("03110103080000 022e0049130000 013400032156 0000 00"),
+    "error": bytes.fromhex("0311010308"),
 }
 # What a program writes, its status, and what it says.
 Ran = tuple[bytes, int, bytes]
+CRATES = [it for it in kit.CRATES if any("fn refused_memory_" in text for _, text in kit.sources(it))]
 
-# Each of these tests, the program, the library that refuses memory, the example in C, and what it lists.
-CHECKS = sum(tests().values()) + 3 + len(SHOWN)
+
+@frame.once
+def library() -> str:
+    """The library that refuses memory."""
+    made = f"{frame.new_folder()}/fail_alloc.so"
+    source = f"{os.path.dirname(__file__)}/fail_alloc.c"
+    frame.must(["cc", "-Wall", "-Wextra", "-Werror", "-O2", "-shared", "-fPIC", source, "-o", made])
+    return made
 
 
 def program_of(crate: str) -> str:
@@ -68,59 +67,47 @@ def program_of(crate: str) -> str:
     return f"{kit.ROOT}/crates/{crate}/out/{crate}_tests"
 
 
-def failing(library: str, number: int, program: str) -> dict[str, str]:
+def failing(number: int, program: str) -> dict[str, str]:
     """The environment in which this request of a program is refused."""
-    return {**os.environ, "LD_PRELOAD": library, "REFUSED": str(number), "REFUSED_IN": os.path.basename(program)}
+    return {**os.environ, "LD_PRELOAD": library(), "REFUSED": str(number), "REFUSED_IN": os.path.basename(program)}
 
 
-def tests_with(crate: str, number: int, library: str) -> list[tuple[str, str, str]]:
+def tests_with(crate: str, number: int) -> list[tuple[str, str, str]]:
     """The tests of refused memory with a refused request: names, verdicts and what was printed."""
     words = [f"{kit.load_rt().KIT}/bin/rattle-test", "--filter", "refused_memory", program_of(crate)]
-    env = failing(library, number, program_of(crate))
-    said = kit.run(words, cwd=f"{kit.ROOT}/crates/{crate}", env=env).stdout
+    said = kit.run(words, cwd=f"{kit.ROOT}/crates/{crate}", env=failing(number, program_of(crate))).stdout
     tests = TEST.findall(said)
-    if not tests:
-        print(said.strip(), file=sys.stderr)
-        sys.exit(2)
+    assert tests, said.strip()
     return tests
 
 
-def try_tests(now: frame.Checks, crate: str, library: str) -> None:
-    """Whether each test of the crate passes with each of its requests refused in turn."""
-    requests: dict[str, int] = {}
+def faults_of(run: Callable[[int], list[tuple[str, str, str]]]) -> dict[str, list[str]]:
+    """What went wrong in each test, if each of its requests is refused in turn, until it says that all were."""
+    done: set[str] = set()
     reached: dict[str, set[str]] = {}
-    failed = set()
+    faults: dict[str, list[str]] = {}
     for number in range(1, LIMIT):
-        tests = tests_with(crate, number, library)
+        tests = run(number)
         for name, verdict, printed in tests:
+            fault = faults.setdefault(name, [])
             if verdict != "ok":
-                failed.add(name)
-                print(f"{crate} {name}: request {number}: {verdict}\n{printed}", end="", flush=True)
+                fault.append(f"request {number}: {verdict}\n{printed}")
             reached.setdefault(name, set()).update(REACHED.findall(printed))
-            if LAST in printed and not reached[name].issuperset(WANTED.findall(printed)):
-                failed.add(name)
-                print(f"{crate} {name}: not all that is wanted was reached: {sorted(reached[name])}", flush=True)
             if LAST in printed:
-                requests.setdefault(name, number - 1)
-        if all(name in requests or name in failed for name, _, _ in tests):
+                done.add(name)
+                if not reached[name].issuperset(WANTED.findall(printed)):
+                    fault.append(f"not all that is wanted was reached: {sorted(reached[name])}")
+        if all(name in done or faults[name] for name, _, _ in tests):
             break
-    for name in sorted({name for name, _, _ in tests}):
-        count = requests.get(name, "failed, or too many")
-        now.tell(name in requests and name not in failed, f"{crate} {name}: {count} requests")
+    for name, fault in faults.items():
+        if name not in done and not fault:
+            fault.append(f"it makes more than {LIMIT} requests")
+    return faults
 
 
-def run_program(program: str, number: int, library: str) -> Ran:
-    """Runs the program on the file of arguments next to its sources, with this request refused."""
-    folder = f"{kit.ROOT}/crates/{PROGRAM}"
-    env = failing(library, number, program)
-    words = [program, *kit.text_of(f"{folder}/args").splitlines()]
-    with open(f"{folder}/stdin", "rb") as given:
-        ran = subprocess.run(words, stdin=given, capture_output=True, env=env, timeout=60, check=False)
-    return ran.stdout, ran.returncode, ran.stderr
-
-
-def try_requests(now: frame.Checks, name: str, run: Callable[[int], Ran]) -> bool:
-    """Whether a program does what it has to with each request refused."""
+def try_requests(run: Callable[[int], Ran]) -> None:
+    """A program writes what it writes otherwise, or the beginnings of that and the line of memory that ran out,
+    whichever of its requests is refused."""
     whole = run(0)
     last = 0
     for number in range(1, LIMIT):
@@ -129,46 +116,53 @@ def try_requests(now: frame.Checks, name: str, run: Callable[[int], Ran]) -> boo
         is_begun = whole[0].startswith(output) and whole[2].startswith(errors[: -len(MEMORY)])
         if status == 1 and errors.endswith(MEMORY) and is_begun:
             last = number
-        elif found != whole:
+        else:
             said = found[2].decode(errors="replace").strip()
-            return now.tell(False, f"{name}: request {number}: status {found[1]}, {said}")
-    if last in (0, LIMIT - 1):
-        return now.tell(False, f"{name}: it makes no request, or more than {LIMIT}")
-    return now.tell(True, f"{name}: {last} requests")
+            assert found == whole, f"request {number}: status {found[1]}, {said}"
+    assert last not in (0, LIMIT - 1), f"it makes no request, or more than {LIMIT}"
 
 
-def try_example(now: frame.Checks, library: str, program: str) -> None:
-    """The same for the example in C, which gets its memory by dwarf_read_heap.c."""
-    include = f"{kit.ROOT}/include"
+def ran(words: list[str], number: int, given: bytes) -> Ran:
+    """What a program does with this input and this request refused."""
+    env = failing(number, words[0])
+    done = subprocess.run(words, input=given, capture_output=True, env=env, timeout=60, check=False)
+    return done.stdout, done.returncode, done.stderr
+
+
+@frame.once
+def example() -> str:
+    """The example in C, which gets its memory by dwarf_read_heap.c."""
+    include, made = f"{kit.ROOT}/include", f"{frame.new_folder()}/dwarf_show"
     sources = [f"{kit.ROOT}/examples/c/dwarf_show.c", f"{include}/dwarf_read_heap.c", f"{include}/dwarf_read.S"]
-    if not now.run("the example in C", ["cc", "-O2", "-I", include, *sources, "-o", program]):
-        return
-    for what, section in SHOWN.items():
+    frame.must(["cc", "-O2", "-I", include, *sources, "-o", made])
+    return made
 
-        def run(number: int, section: bytes = section) -> Ran:
-            env = failing(library, number, program)
-            words = [program, "abbrev", "0"]
-            ran = subprocess.run(words, input=section, capture_output=True, env=env, timeout=60, check=False)
-            return ran.stdout, ran.returncode, ran.stderr
 
-        try_requests(now, f"the example in C, {what}", run)
+@frame.needs("cc")
+class Memory(frame.Check):
+    """What happens if any one request for memory is refused."""
+
+    @frame.each(CRATES)
+    def test_tests(self, crate: str) -> None:
+        if not products.find(program_of(crate), crate):
+            frame.skip(f"the tests of {crate} aren't built from these sources")
+        for name, faults in faults_of(lambda number: tests_with(crate, number)).items():
+            self.part(name, not faults, f"{crate} {name}: " + "\n".join(faults))
+
+    def test_dwarf_list(self) -> None:
+        folder = f"{kit.ROOT}/crates/{PROGRAM}"
+        program = frame.must([f"{kit.ROOT}/{PROGRAM}", "--path"], stderr=None).strip()
+        words = [program, *kit.text_of(f"{folder}/args").splitlines()]
+        with open(f"{folder}/stdin", "rb") as file:
+            given = file.read()
+        try_requests(lambda number: ran(words, number, given))
+
+    @frame.each(SHOWN)
+    def test_example(self, what: str) -> None:
+        try_requests(lambda number: ran([example(), "abbrev", "0"], number, SHOWN[what]))
 
 
 def main(words: list[str]) -> int:
     if words:
-        return frame.usage(__doc__, words)
-    with tempfile.TemporaryDirectory(prefix="fail-alloc-") as folder:
-        now = frame.Checks("fail-alloc", folder)
-        library = f"{folder}/fail_alloc.so"
-        words = ["cc", "-Wall", "-Wextra", "-Werror", "-O2", "-shared", "-fPIC", f"{kit.ROOT}/tools/workshop/checks/fail_alloc.c"]
-        if not now.has("all of it", "cc", count=CHECKS) or not now.run("its library", [*words, "-o", library]):
-            return now.end(CHECKS)
-        for crate, count in tests().items():
-            if products.find(program_of(crate), crate):
-                try_tests(now, crate, library)
-            else:
-                now.skip(f"{crate}: its tests", "they aren't built from these sources", count)
-        program = kit.run([f"{kit.ROOT}/{PROGRAM}", "--path"], stderr=None).stdout.strip()
-        try_requests(now, PROGRAM, lambda number: run_program(program, number, library))
-        try_example(now, library, f"{folder}/dwarf_show")
-        return now.end(CHECKS)
+        return frame.usage(__doc__)
+    return frame.check("fail-alloc", [Memory], section="fail-alloc")

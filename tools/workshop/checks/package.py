@@ -2,7 +2,7 @@
 the library.
 
     tools/package [FOLDER]    writes them to a folder, or to the one where it runs
-    tools/package --check     makes them in a scratch folder, and tries them
+    tools/package --check     makes them in a scratch folder, and tries them; the names of checks may follow
 
 The packages are libdwarf-read0.5, the shared library, whose name has the minor version; libdwarf-read-dev, what a
 program is compiled and linked with; and dwarf-read, the programs. The tar is dwarf-read-VERSION-linux-amd64.tar.gz.
@@ -22,19 +22,18 @@ skipped, and the last line is `N passed, M failed, K skipped`. The exit status i
 did, and 2 for a wrong command line.
 """
 import filecmp
+import functools
 import glob
 import os
 import re
-import shlex
 import shutil
 import subprocess
 import sys
-import tempfile
 import textwrap
-from collections.abc import Mapping
 from typing import Any, NoReturn
 
 from workshop import frame, kit
+from workshop.checks import consumers, rows
 
 NAME = "dwarf-read"
 LIBDIR = "lib/x86_64-linux-gnu"
@@ -54,21 +53,11 @@ OF_EACH = (f"{DOC}/changelog.gz", f"{DOC}/copyright")
 OF_TAR = (f"{DOC}/LICENSE-APACHE", f"{DOC}/LICENSE-MIT")
 # The crates of what is installed.
 CRATES = ("dwarf_list", "dwarf_read_c")
-# How many checks are made where nothing has to be skipped.
-CHECKS = 69
 BINARIES = ("libexec/dwarf-read/dwarf_list", "bin/dwarf_elf")
 OF_DEBIAN = ("dpkg-deb", "dpkg-shlibdeps", "dpkg-gencontrol")
 NEEDED = ("git", "cargo", "cc", "ar", "strip", "tar", "gzip", "nm", "readelf", "sha256sum", *OF_DEBIAN)
-SECTION = bytes.fromhex("0111010308000000")
-CMAKE_LISTS = """\
-cmake_minimum_required(VERSION 3.13)
-project(show C)
-find_package(dwarf_read {version} REQUIRED)
-add_executable(show "{source}")
-target_link_libraries(show dwarf_read::dwarf_read)
-add_executable(show_shared "{source}")
-target_link_libraries(show_shared dwarf_read::dwarf_read_shared)
-"""
+# Where the pages are below what is unpacked.
+DOCS = {"packages": f"share/doc/{DEV}", "tar": DOC}
 # The parts of docs/C.md that are for a clone, and what the installed page names: files, and folders of a clone.
 OF_CLONE = re.compile(
     r"^The library's proved code is in this repository.*?(?=^\[`dwarf_read\.h`\])"
@@ -91,6 +80,9 @@ def output(*words: str, cwd: str = kit.ROOT, **how: Any) -> str:
     if ran.returncode:
         fail(f"{words[0]} ended with status {ran.returncode}")
     return str(ran.stdout).rstrip("\n")
+
+
+is_same = functools.partial(filecmp.cmp, shallow=False)
 
 
 class Package:
@@ -263,187 +255,185 @@ class Package:
         output("tar", *same, *words, "-I", "gzip -9n", "-C", above, "-cf", f"{self.work}/{name}", folder)
 
 
-def try_files(now: frame.Checks, made: Package) -> tuple[str, str]:
-    """What is in the packages and in the tar. Returns the folders that are like /usr, once either is unpacked."""
-    if now.has("lintian", "lintian"):
-        now.run("lintian", ["lintian", "--fail-on", "error,warning", *made.debs], cwd=made.work)
-    again = Package(f"{now.work}/again")
-    again.make()
-    for it in made.files:
-        now.tell(filecmp.cmp(f"{made.work}/{it}", f"{again.work}/{it}", False), f"{it} is the same again")
-    os.mkdir(f"{now.work}/a tar")
-    for it in made.debs:
-        now.run(f"unpacking {it}", ["dpkg-deb", "-x", f"{made.work}/{it}", f"{now.work}/deb"])
-    now.run("unpacking the tar", ["tar", "-xzf", f"{made.work}/{made.tar}", "-C", f"{now.work}/a tar"])
-    tar = f"{now.work}/a tar/{made.folder}"
-    pages = [(it, f"{now.work}/deb", f"usr/share/doc/{it}") for it in made.packages]
-    for name, top, page in (*pages, ("the tar", tar, DOC)):
-        sums = f"grep -E '^[0-9a-f]{{64}}  ' {page}/PROVENANCE | sha256sum --check --quiet --strict"
-        now.run(f"the checksums of {name}", ["sh", "-c", sums], cwd=top)
-    for it, folders in zip(made.packages, FOLDERS):
-        found = {*os.listdir(f"{made.work}/{it}/usr")}
-        now.tell(found == folders, f"{it} has {', '.join(sorted(found))}")
-    for it in made.packages:
-        said = output("dpkg-deb", "-f", f"{made.work}/{it}_{made.version}_amd64.deb", "Depends")
-        well = all(re.fullmatch(r"\S+ \((?:>=|=) \S+\)", one) for one in said.split(", "))
-        well = well and (it != DEV or said == f"{made.of_shared} (= {made.version})")
-        now.tell(well and "python" not in said, f"{it} depends on {said}")
-    return f"{now.work}/deb/usr", tar
+@frame.once
+def made() -> Package:
+    """The packages and tars of this clone."""
+    frame.need(*NEEDED)
+    if kit.run(["git", "rev-parse", "HEAD"], cwd=kit.ROOT).returncode:
+        frame.skip("git knows of no commit")
+    package = Package(frame.new_folder())
+    package.make()
+    return package
 
 
-def try_page(now: frame.Checks, root: str, doc: str) -> None:
-    """The installed page names files that are installed, and nothing of a clone."""
-    page = kit.text_of(f"{root}/{doc}/C.md")
-    there = kit.files_below(root)
-    unknown = [it for it in NAMED.findall(page) if not any(path.endswith(f"/{it}") for path in there)]
-    unknown += re.findall(r"\b(?:tools|crates)/|\bclone\b|\bPROVED\b", page)
-    now.tell(NAMED.search(page) and not unknown, f"C.md names what is installed{''.join(f', {it}' for it in unknown)}")
-
-
-def try_programs(now: frame.Checks, root: str) -> tuple[bytes, int]:
-    """The programs run below a folder, without the kit. Returns what dwarf_list prints, and its status."""
-    alone = {"PATH": "/usr/bin:/bin"}
-    start = f"{root}/bin/dwarf_list"
-    table, table_status = now.output([start, "abbrev", "0"], "section", env=alone)
-    well = table_status == 0 and table.startswith(b"1 DW_TAG_compile_unit yes\n")
-    now.tell(well, "dwarf_list without the kit")
-    said, status = now.output([start, "--help"], "section", env=alone)
-    now.tell(said.startswith(b"usage: dwarf_list ") and status == 0, "dwarf_list --help")
-    said, status = now.output([start, "--version"], "section", env=alone)
-    now.tell(said.startswith(f"dwarf_list {kit.VERSION}, proved, ".encode()) and status == 0, "dwarf_list --version")
-    words = ["cc", "-g", "-c", f"-I{root}/include", f"{kit.ROOT}/examples/c/dwarf_show.c", "-o", "object.o"]
-    now.run("an object file", words)
-    for command in ("abbrev", "abbrev 0"):
-        words = [f"{root}/bin/dwarf_elf", f"{now.work}/object.o", *command.split()]
-        listed, status = now.output(words, "section", env=alone)
-        now.tell(status == 0 and b" DW_TAG_compile_unit yes\n" in listed, f"dwarf_elf {command}")
-    return table, table_status
-
-
-def try_library(
-    now: frame.Checks, root: str, doc: str, environment: Mapping[str, str], wanted: tuple[bytes, int]
-) -> None:
-    """Programs in C, C++ and Rust over the library, as pkg-config finds it below the folder."""
-    if not now.has("the library", "pkg-config", count=9):
-        return
-    at = {**os.environ, "PKG_CONFIG_LIBDIR": f"{root}/{LIBDIR}/pkgconfig", **environment}
-    flags = shlex.split(output("pkg-config", "--cflags", "--libs", "dwarf_read", env=at))
-    source = f"{root}/{doc}/examples/c/dwarf_show.c"
-    loaded = {**os.environ, "LD_LIBRARY_PATH": f"{root}/{LIBDIR}"}
-    archive = ["-l:libdwarf_read.a" if it == "-ldwarf_read" else it for it in flags]
-    for compiler, language, given in (("cc", "c", flags), ("c++", "c++", flags), ("cc", "c", archive)):
-        words = [compiler, "-x", language, source, "-x", "none", *given, "-o", "show"]
-        what = f"a program by {compiler} with {given[-1]}"
-        if now.has(what, compiler, count=2) and now.run(what, words):
-            env = os.environ if given is archive else loaded
-            now.tell(now.output([f"{now.work}/show", "abbrev", "0"], "section", env=env) == wanted, "what it prints")
-    words = ["cargo", "run", "--quiet", "--offline", "--manifest-path", f"{root}/{SOURCES}/rust/Cargo.toml"]
-    words += ["--target-dir", f"{now.work}/cargo", "--example", "dwarf_show", "abbrev", "0"]
-    if now.has("a program by cargo", "cargo"):
-        now.tell(now.output(words, "section") == wanted, "a program by cargo, and what it prints")
-    words = ["cc", "-I", f"{root}/include", source]
-    words += [f"{root}/{SOURCES}/include/{it}" for it in ("dwarf_read_heap.c", "dwarf_read.S")]
-    if now.run("a program with the sources of the library", [*words, "-o", "show"]):
-        now.tell(now.output([f"{now.work}/show", "abbrev", "0"], "section") == wanted, "what it prints")
-
-
-def try_exports(now: frame.Checks, root: str) -> None:
-    """What the shared library exports: the calls that the header declares, with the version."""
-    version = kit.VERSION.rpartition(".")[0]
-    shared = f"{root}/{LIBDIR}/libdwarf_read.so.{version}"
-    header = kit.text_of(f"{root}/include/dwarf_read.h")
-    calls = re.findall(r"^uint32_t (dwarf_\w+)\(", header, re.M)
-    symbols = dict(re.findall(r"^#define (dwarf_\w+) (\1_\d+_\d+)$", header, re.M))
-    said = output("nm", "-D", "--defined-only", "--with-symbol-versions", shared)
-    wanted = {f"{symbols.get(it, it)}@@DWARF_READ_{version}" for it in calls} | {f"DWARF_READ_{version}"}
-    now.tell(calls and set(re.findall(r" [A-Z] (\S+)$", said, re.M)) == wanted, f"it exports {len(calls)} calls alone")
-    soname = re.findall(r"SONAME.*\[(.*)\]", output("readelf", "-d", shared))
-    now.tell(soname == [os.path.basename(shared)], f"its soname is {''.join(soname)}")
-
-
-def try_cmake(now: frame.Checks, root: str, doc: str, wanted: tuple[bytes, int]) -> None:
-    """Programs over the archive and the shared library, as CMake finds them below the folder."""
-    if not now.has("a program by CMake", "cmake", count=5):
-        return
-    source = f"{root}/{doc}/examples/c/dwarf_show.c"
-    words = ["cmake", "-S", "by_cmake", "-B", "by_cmake/out", f"-DCMAKE_PREFIX_PATH={root}"]
-    # A program is compiled for one minor version.
-    major, minor, _ = map(int, kit.VERSION.split("."))
-    others = [f"{major}.{it}" for it in (minor - 1, minor + 1) if it >= 0]
-    refused = []
-    for it in others:
-        kit.put(f"{now.work}/by_cmake/CMakeLists.txt", CMAKE_LISTS.format(source=source, version=it))
-        ran = kit.run(words, cwd=now.work)
-        refused.append(ran.returncode and "considered but" in ran.stdout)
-        shutil.rmtree(f"{now.work}/by_cmake/out", ignore_errors=True)
-    now.tell(all(refused), f"CMake finds no version {' or '.join(others)}")
-    kit.put(f"{now.work}/by_cmake/CMakeLists.txt", CMAKE_LISTS.format(source=source, version=kit.VERSION))
-    if now.run("CMake finds the library", words):
-        if now.run("programs by CMake", ["cmake", "--build", "by_cmake/out"]):
-            for it in ("show", "show_shared"):
-                listed = now.output([f"{now.work}/by_cmake/out/{it}", "abbrev", "0"], "section")
-                now.tell(listed == wanted, f"what {it} prints")
-    shutil.rmtree(f"{now.work}/by_cmake")
-
-
-def try_vendor(now: frame.Checks, made: Package, wanted: tuple[bytes, int]) -> None:
-    """A program in a folder that has what the tar for such programs has, and nothing else."""
-    folder = f"{now.work}/vendor"
+@frame.once
+def unpacked(kind: str) -> str:
+    """The folder that is like /usr, once the packages or the tar are unpacked: the tar in a folder with a space."""
+    if kind == "packages":
+        folder = f"{frame.new_folder()}/deb"
+        for it in made().debs:
+            frame.must(["dpkg-deb", "-x", f"{made().work}/{it}", folder])
+        return f"{folder}/usr"
+    folder = f"{frame.new_folder()}/a tar"
     os.mkdir(folder)
-    words = ["tar", "-xzf", f"{made.work}/{made.vendor}", "-C", folder, "--strip-components=1"]
-    if now.run(f"unpacking {made.vendor}", words):
-        shutil.copy(f"{kit.ROOT}/examples/c/dwarf_show.c", f"{folder}/program.c")
-        line = re.findall(r"^ \* +(cc .*)$", kit.text_of(f"{folder}/dwarf_read.S"), re.M)[0]
-        if now.run(f"in its folder, {line}", ["sh", "-c", line], cwd=folder):
-            now.tell(now.output([f"{folder}/a.out", "abbrev", "0"], "section") == wanted, "what it prints")
+    frame.must(["tar", "-xzf", f"{made().work}/{made().tar}", "-C", folder])
+    return f"{folder}/{made().folder}"
 
 
-def check(work: str) -> int:
-    """Makes and tries the package, and returns the exit status."""
-    now = frame.Checks("package", work)
-    if not now.has("all of it", *NEEDED, count=CHECKS):
-        return now.end(CHECKS)
-    if subprocess.run(["git", "rev-parse", "HEAD"], cwd=kit.ROOT, capture_output=True, check=False).returncode:
-        now.skip("all of it", "git knows of no commit", CHECKS)
-        return now.end(CHECKS)
-    kit.put(f"{work}/section", SECTION)
-    kit.put(f"{work}/offsets", "0\n")
-    made = Package(f"{work}/made")
-    made.make()
-    deb, tar = try_files(now, made)
-    # The package's own files say where they are once they are installed.
-    of_deb = {"PKG_CONFIG_SYSROOT_DIR": f"{work}/deb"}
-    of_deb.update({f"PKG_CONFIG_ALLOW_SYSTEM_{it}": "1" for it in ("CFLAGS", "LIBS")})
-    environments: dict[str, tuple[str, dict[str, str]]] = {deb: (f"share/doc/{DEV}", of_deb), tar: (DOC, {})}
-    for root, (doc, environment) in environments.items():
-        print(f"package: in {root}:", flush=True)
-        wanted = try_programs(now, root)
-        try_page(now, root, doc)
-        try_exports(now, root)
-        try_library(now, root, doc, environment, wanted)
-        try_cmake(now, root, doc, wanted)
-    try_vendor(now, made, wanted)
-    return now.end(CHECKS)
+def root(kind: str) -> consumers.Root:
+    """The same, as programs find it. The package's own files say where they are once they are installed."""
+    at = unpacked(kind)
+    source = f"{at}/{DOCS[kind]}/examples/c/dwarf_show.c"
+    if kind == "tar":
+        return consumers.Root(at, LIBDIR, source)
+    more = {f"PKG_CONFIG_ALLOW_SYSTEM_{it}": "1" for it in ("CFLAGS", "LIBS")}
+    return consumers.Root(at, LIBDIR, source, {"PKG_CONFIG_SYSROOT_DIR": os.path.dirname(at), **more})
+
+
+class Files(frame.Check):
+    """What is in the packages and in the tars."""
+
+    @frame.needs("lintian")
+    def test_lintian(self) -> None:
+        self.must(["lintian", "--fail-on", "error,warning", *made().debs], cwd=made().work)
+
+    def test_same_again(self) -> None:
+        """The same programs and tools give the same bytes."""
+        again = Package(f"{self.work}/again")
+        again.make()
+        self.assertEqual([it for it in made().files if not is_same(f"{made().work}/{it}", f"{again.work}/{it}")], [])
+        self.count = len(made().files)
+
+    @frame.each(DOCS)
+    def test_checksums(self, kind: str) -> None:
+        """PROVENANCE has the checksums of the files."""
+        at = unpacked(kind)
+        pages = [DOC] if kind == "tar" else [f"usr/share/doc/{it}" for it in made().packages]
+        for page in pages:
+            sums = f"grep -E '^[0-9a-f]{{64}}  ' {page}/PROVENANCE | sha256sum --check --quiet --strict"
+            self.must(["sh", "-c", sums], cwd=at if kind == "tar" else os.path.dirname(at))
+        self.count = len(pages)
+
+    def test_folders(self) -> None:
+        found = [{*os.listdir(f"{made().work}/{it}/usr")} for it in made().packages]
+        self.assertEqual(found, [*FOLDERS])
+
+    def test_dependencies(self) -> None:
+        for it in made().packages:
+            said = output("dpkg-deb", "-f", f"{made().work}/{it}_{made().version}_amd64.deb", "Depends")
+            for one in said.split(", "):
+                self.assertRegex(one, r"^\S+ \((?:>=|=) \S+\)$", it)
+            self.assertNotIn("python", said)
+            if it == DEV:
+                self.assertEqual(said, f"{made().of_shared} (= {made().version})")
+
+    @frame.each(DOCS)
+    def test_page(self, kind: str) -> None:
+        """The installed page names files that are installed, and nothing of a clone."""
+        page = kit.text_of(f"{unpacked(kind)}/{DOCS[kind]}/C.md")
+        there = kit.files_below(unpacked(kind))
+        unknown = [it for it in NAMED.findall(page) if not any(path.endswith(f"/{it}") for path in there)]
+        self.assertEqual(unknown + re.findall(r"\b(?:tools|crates)/|\bclone\b|\bPROVED\b", page), [])
+        self.assertTrue(NAMED.search(page))
+
+    @frame.each(DOCS)
+    def test_exports(self, kind: str) -> None:
+        """The shared library exports the calls that the header declares, with the version."""
+        version = kit.VERSION.rpartition(".")[0]
+        shared = f"{unpacked(kind)}/{LIBDIR}/libdwarf_read.so.{version}"
+        header = kit.text_of(f"{unpacked(kind)}/include/dwarf_read.h")
+        calls = re.findall(r"^uint32_t (dwarf_\w+)\(", header, re.M)
+        symbols = dict(re.findall(r"^#define (dwarf_\w+) (\1_\d+_\d+)$", header, re.M))
+        said = output("nm", "-D", "--defined-only", "--with-symbol-versions", shared)
+        wanted = {f"{symbols.get(it, it)}@@DWARF_READ_{version}" for it in calls} | {f"DWARF_READ_{version}"}
+        self.assertTrue(calls)
+        self.assertEqual(set(re.findall(r" [A-Z] (\S+)$", said, re.M)), wanted)
+        soname = re.findall(r"SONAME.*\[(.*)\]", output("readelf", "-d", shared))
+        self.assertEqual(soname, [os.path.basename(shared)])
+
+
+class Unpacked(frame.Check):
+    """What is unpacked works where it is, without the kit."""
+
+    @frame.each(DOCS)
+    def test_dwarf_list(self, kind: str) -> None:
+        start = f"{unpacked(kind)}/bin/dwarf_list"
+        rows.compare([start], env=consumers.ALONE)
+        for word, said in (("--help", "usage: dwarf_list "), ("--version", f"dwarf_list {kit.VERSION}, proved, ")):
+            found, status = frame.output([start, word], env=consumers.ALONE)
+            self.assertEqual((found[: len(said)].decode(), status), (said, 0))
+
+    @frame.each(DOCS)
+    def test_dwarf_elf(self, kind: str) -> None:
+        source = f"{kit.ROOT}/examples/c/dwarf_show.c"
+        self.must(["cc", "-g", "-c", f"-I{unpacked(kind)}/include", source, "-o", "object.o"])
+        for command in ("abbrev", "abbrev 0"):
+            words = [f"{unpacked(kind)}/bin/dwarf_elf", f"{self.work}/object.o", *command.split()]
+            listed, status = frame.output(words, env=consumers.ALONE)
+            self.assertEqual(status, 0)
+            self.assertIn(b" DW_TAG_compile_unit yes\n", listed)
+
+    @frame.each(f"{way} over {kind}" for kind in DOCS for way in consumers.WAYS)
+    def test_program(self, row: str) -> None:
+        way, _, kind = row.rpartition(" over ")
+        consumers.consume(self, root(kind), way)
+
+    @frame.each(DOCS)
+    @frame.needs("cargo")
+    def test_crate(self, kind: str) -> None:
+        """The crate for Rust is built where it is."""
+        manifest = f"{unpacked(kind)}/{SOURCES}/rust/Cargo.toml"
+        words = ["cargo", "build", "--quiet", "--offline", "--manifest-path", manifest, "--example", "dwarf_show"]
+        self.must([*words, "--target-dir", f"{self.work}/cargo"])
+        rows.compare([f"{self.work}/cargo/debug/examples/dwarf_show"], without="uleb")
+
+    @frame.each(DOCS)
+    def test_sources(self, kind: str) -> None:
+        """A program contains the sources of the library."""
+        at = unpacked(kind)
+        sources = [f"{at}/{SOURCES}/include/{it}" for it in ("dwarf_read_heap.c", "dwarf_read.S")]
+        self.must(["cc", "-I", f"{at}/include", root(kind).source, *sources, "-o", "show"])
+        rows.compare([f"{self.work}/show"])
+
+    @frame.each(DOCS)
+    @frame.needs("cmake")
+    def test_other_versions(self, kind: str) -> None:
+        """A program is compiled for one minor version, so CMake finds no other."""
+        major, minor, _ = map(int, kit.VERSION.split("."))
+        for it in (minor - 1, minor + 1):
+            find = consumers.FIND.format(version=f"{major}.{it}")
+            text = consumers.CMAKE_LISTS.format(find=find, source=root(kind).source)
+            kit.put(f"{self.work}/{it}/CMakeLists.txt", text)
+            words = ["cmake", "-S", ".", "-B", "out", f"-DCMAKE_PREFIX_PATH={unpacked(kind)}"]
+            ran = kit.run(words, cwd=f"{self.work}/{it}")
+            self.assertTrue(ran.returncode and "considered but" in ran.stdout, ran.stdout)
+
+    def test_vendor(self) -> None:
+        """A program is compiled in the folder for such programs, with nothing else there, by its line."""
+        self.must(["tar", "-xzf", f"{made().work}/{made().vendor}", "-C", self.work, "--strip-components=1"])
+        shutil.copy(f"{kit.ROOT}/examples/c/dwarf_show.c", f"{self.work}/program.c")
+        line = re.findall(r"^ \* +(cc .*)$", kit.text_of(f"{self.work}/dwarf_read.S"), re.M)[0]
+        self.must(["sh", "-c", line])
+        rows.compare([f"{self.work}/a.out"])
 
 
 def main(words: list[str]) -> int:
-    is_check = words == ["--check"]
-    if len(words) > 1 or any(it.startswith("-") for it in words) and not is_check:
-        return frame.usage(__doc__, words)
+    is_check = words[:1] == ["--check"]
+    if not is_check and (len(words) > 1 or any(it.startswith("-") for it in words)):
+        return frame.usage(__doc__)
     os.umask(0o022)
-    with tempfile.TemporaryDirectory(prefix="package-") as work:
-        if is_check:
-            return check(work)
-        lacking = [it for it in NEEDED if not shutil.which(it)]
-        if lacking:
-            fail(f"there is no {lacking[0]}")
-        folder = words[0] if words else "."
-        made = Package(work)
-        if made.changes:
-            fail("files have changes that are in no commit")
-        made.make()
-        os.makedirs(folder, exist_ok=True)
-        for it in made.files:
-            shutil.copy(f"{work}/{it}", folder)
-            print(f"package: {folder}/{it}")
+    if is_check:
+        return frame.check("package", [Files, Unpacked], words[1:], section="package")
+    lacking = [it for it in NEEDED if not shutil.which(it)]
+    if lacking:
+        fail(f"there is no {lacking[0]}")
+    folder = words[0] if words else "."
+    package = Package(frame.new_folder())
+    if package.changes:
+        fail("files have changes that are in no commit")
+    package.make()
+    os.makedirs(folder, exist_ok=True)
+    for it in package.files:
+        shutil.copy(f"{package.work}/{it}", folder)
+        print(f"package: {folder}/{it}")
     return 0

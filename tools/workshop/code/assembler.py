@@ -25,14 +25,11 @@ for a wrong command line.
 import hashlib
 import os
 import re
-import tempfile
 from typing import Optional
 
 from workshop import frame, kit
 from workshop.code import products
 
-# How many checks are made: one for each file.
-CHECKS = sum(len(products.CODE[it]) for it in products.FILES)
 # What the code of each crate is.
 WHAT = {"dwarf_read_c": "functions of dwarf_read.h", "dwarf_list": "program dwarf_list"}
 HEAD = """\
@@ -95,20 +92,19 @@ def made_before(name: str, of_sources: str) -> Optional[str]:
     return kit.text_of(kept) if kept else None
 
 
-def judge(now: frame.Checks, crate: str, name: str, of_sources: str) -> None:
-    """Compares a file with what is made of the sources."""
+def judge(crate: str, name: str, of_sources: str) -> None:
+    """Compares a file with what is made of the sources. Fails if it is another one, and skips the check if it can't be
+    compared."""
     path = f"{products.FILES[crate]}/{name}.s"
     text = kit.text_of(path) if os.path.isfile(path) else ""
     found = KIT.search(text)
     made_by = found[1] if found and found[1] in kit.KITS else "no kit that is known here"
-    what = f"{os.path.relpath(path, kit.ROOT)} has the proved code"
     wanted = head(crate, name, of_sources, made_by)
     if text == wanted + str(made_before(name, of_sources)):
-        now.tell(True, what)
-    elif text.startswith(wanted) and made_by != kit.version():
-        now.skip(what, f"{made_by} made it, and {kit.version()} makes other code")
-    elif not now.tell(False, what):
-        say("`tools/assembler` makes the files again")
+        return
+    if text.startswith(wanted) and made_by != kit.version():
+        frame.skip(f"{made_by} made it, and {kit.version()} makes other code")
+    raise AssertionError(f"{os.path.relpath(path, kit.ROOT)} hasn't the proved code: `tools/assembler` makes it again")
 
 
 def are_of(crate: str, of_sources: str) -> bool:
@@ -134,28 +130,38 @@ def write(crate: str, of_sources: str) -> bool:
     return True
 
 
-def check(now: frame.Checks, crate: str, of_sources: str) -> None:
-    """Compares the files of a crate. If the sources are others, nothing has to be made."""
-    if are_of(crate, of_sources) and not is_made(crate, of_sources):
-        now.failed += 1
-    for it in products.CODE[crate]:
-        judge(now, crate, it, of_sources)
+@frame.once
+def make_once(crate: str, of_sources: str) -> None:
+    """Makes the code of a crate for each target, where it isn't kept."""
+    with products.in_turn(crate):
+        assert is_made(crate, of_sources), f"the code of {crate} isn't made"
+
+
+class Files(frame.Check):
+    """Each file has the proved code."""
+
+    @frame.each([f"{it} of {crate}" for crate in products.FILES for it in products.CODE[crate]])
+    def test_file(self, row: str) -> None:
+        name, _, crate = row.split()
+        of_sources = products.code_of(crate)
+        # If the sources are others, nothing has to be made.
+        if are_of(crate, of_sources):
+            make_once(crate, of_sources)
+        judge(crate, name, of_sources)
 
 
 def main(words: list[str]) -> int:
     if words not in ([], ["--check"], ["--sources"], *(["--sources", it] for it in products.FILES)):
-        return frame.usage(__doc__, words)
+        return frame.usage(__doc__)
     sources = {it: products.code_of(it) for it in words[1:] or products.FILES}
     if words[:1] == ["--sources"]:
         is_well = all(are_of(*it) for it in sources.items())
         say("the files are of these sources" if is_well else "the sources changed: `tools/assembler` makes the files again")
         return 0 if is_well else 1
     kit.of_path("rattle")
-    with tempfile.TemporaryDirectory(prefix="assembler-") as work:
-        now = frame.Checks("assembler", work)
+    if not words:
         for it, of_sources in sources.items():
             with products.in_turn(it):
-                if not words and not write(it, of_sources):
+                if not write(it, of_sources):
                     return 1
-                check(now, it, of_sources)
-        return now.end(CHECKS)
+    return frame.check("assembler", [Files], section="assembler")

@@ -14,7 +14,8 @@ import tempfile
 from collections.abc import Sequence
 
 from workshop import frame, kit
-from workshop.compare.common import CRATE, DEBIAN, Failed, Missing, OUT, PACKAGE, files_by_default, must, need, put, put_library, put_sections, run
+from workshop.compare.common import CRATE, DEBIAN, OUT, PACKAGE, Failed, Missing, files_by_default, must, need, put
+from workshop.compare.common import put_library, put_sections, run
 
 MANIFEST = """[package]
 name = "gimli"
@@ -200,7 +201,7 @@ def first_difference(one: str, other: str) -> str:
     return "one is the front of the other"
 
 
-def compare_dumps(now: frame.Checks, files: Sequence[str], folders: Sequence[str], work: str) -> set[str]:
+def compare_dumps(states: frame.States, files: Sequence[str], folders: Sequence[str], work: str) -> set[str]:
     """Compares the dumps of each file, and returns which planted errors they show."""
     gimli, library, planted = f"{work}/gimli", f"{work}/library", f"{work}/planted"
     shown = set()
@@ -213,7 +214,7 @@ def compare_dumps(now: frame.Checks, files: Sequence[str], folders: Sequence[str
         wanted = dump(folders[0], sections, order, gimli)
         said = dump(folders[1], sections, order, library)
         is_equal = said == wanted and filecmp.cmp(gimli, library, shallow=False)
-        now.tell(is_equal, f"dump of {path}: {said}")
+        tell(states, f"dump of {path}", is_equal, said)
         if not is_equal:
             print(f"  gimli: {wanted}\n  {first_difference(gimli, library)}")
         for what, where in PLANTED:
@@ -223,6 +224,12 @@ def compare_dumps(now: frame.Checks, files: Sequence[str], folders: Sequence[str
                     shown.add(what)
         shutil.rmtree(sections)
     return shown
+
+
+def tell(states: frame.States, name: str, well: object, said: str) -> None:
+    """Adds what came of a check, and prints a line."""
+    states[name] = frame.State(frame.PASSED if well else frame.FAILED, said)
+    print(f"compare: {name}: {said}: {'ok' if well else 'FAILED'}", flush=True)
 
 
 def client(given: argparse.Namespace) -> int:
@@ -243,13 +250,14 @@ def client(given: argparse.Namespace) -> int:
     kinds = ", ".join(f"{passed} passed, {failed} failed" for passed, failed in found)
     wanted = tests(folders[0])
     with tempfile.TemporaryDirectory(prefix="compare-") as work:
-        now = frame.Checks("compare", work)
-        now.tell(found == wanted and not sum(it[1] for it in found), f"gimli's own tests by the library: {kinds}")
+        states: frame.States = {}
+        is_well = found == wanted and not sum(it[1] for it in found)
+        tell(states, "gimli's own tests by the library", is_well, kinds)
         # A test that passes without a call of the library says nothing of it.
         reached = [failed for _, failed in tests(folders[1], "reached")]
-        now.tell(sum(reached), f"of these reach the library: {', '.join(map(str, reached))}")
+        tell(states, "of these reach the library", sum(reached), ", ".join(map(str, reached)))
         files = given.files or files_by_default(f"{folders[1]}/target/release/examples/dump")
-        shown = compare_dumps(now, files, folders, work)
+        shown = compare_dumps(states, files, folders, work)
     # The tests of gimli's modules are enough.
     failures = sum(failed for _, failed in tests(folders[1], "number", ["--lib"]))
     if failures:
@@ -258,5 +266,5 @@ def client(given: argparse.Namespace) -> int:
         seen = f"{failures} tests fail" if where == "tests" else "a dump differs"
         if what not in shown:
             seen = f"the {where} do not show it"
-        now.tell(what in shown, f"planted {what}: {seen}")
-    return now.end(2 + len(files) + len(PLANTED))
+        tell(states, f"planted {what}", what in shown, seen)
+    return frame.end("compare", states)

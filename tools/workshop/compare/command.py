@@ -22,9 +22,9 @@ too: slices whose byte order is big or known at run time, and `OwnedReader` of `
 
 A difference is printed with the smallest input that is found to show it, what each reader gives, and the command that
 reads it alone, which is the second form. Then comes a line for each question, with how often each error and each kind
-of value was reached, and lines that say what this gimli doesn't have or reads otherwise. The last line begins with how
-many of the questions were equal throughout, `N passed, M failed, K skipped`, and has how many inputs there were, and
-how many of them differed.
+of value was reached, and lines that say what this gimli doesn't have or reads otherwise, how many inputs there were, and
+how many of them differed. The last line has how many of the questions were equal throughout, `N passed, M failed,
+K skipped`.
 
 `--all` goes through all short inputs, some twelve million: the sections of up to five bytes over an alphabet of
 eleven, and those of up to four after the front of a table; sets and units whose headers are nearly right; lookups in up
@@ -77,16 +77,16 @@ another tool is missing. With --or-skip a missing tool is counted as skipped, wi
 """
 import argparse
 import functools
-import os
 import re
 import subprocess
 import tempfile
 from collections.abc import Callable
 from typing import Optional
 
-from workshop import frame, kit
+from workshop import floor, frame, kit
 from workshop.compare import client, demand, growth, measure, program, published
 from workshop.compare.common import Failed, Missing, build, check_files, files_by_default, say, sections
+from workshop.frame import FAILED, PASSED, SKIPPED, State
 
 
 def compare(given: argparse.Namespace) -> int:
@@ -112,21 +112,55 @@ def compare(given: argparse.Namespace) -> int:
     with tempfile.TemporaryDirectory(prefix="compare-") as work:
         for i, path in enumerate(files):
             words += sections(path, f"{work}/{i}")
-        return subprocess.run(words, stdin=subprocess.DEVNULL, check=False).returncode
+        ran = kit.run(words, show, stderr=None)
+    return frame.end("compare", states_of(ran.stdout, ran.returncode))
 
 
-# A list of the program that compares: the questions, and the errors that are planted.
-LISTED = re.compile(r"^(?:whats|plants)! \{\n(.*?)^\}", re.M | re.S)
+# What the program says of a question, of a planted error, of the short inputs, of those that other readers of the library
+# had, and of what this gimli hasn't.
+QUESTION = re.compile(r"^([\w-]+): \d+ inputs, (\d+) differences", re.M)
+PLANT = re.compile(r"^planted ([\w-]+): (not )?found in ", re.M)
+SHORT = re.compile(r"^all short inputs: (\d+) in ", re.M)
+OTHERS = re.compile(r"^(\d+) inputs were read by four other readers", re.M)
+LEFT_OUT = {
+    "sets": "this gimli has no sets of addresses, so the second reader alone had them",
+    "units": "units are compared with gimli 0.27, so the second reader alone had them",
+}
+LEFT_PLANTS = re.compile(r"^left out: (errors that are planted where units are compared .*): (\d+)$", re.M)
+# A list of the errors that are planted.
+PLANTS = re.compile(r"^plants! \{\n(.*?)^\}", re.M | re.S)
 
 
-def counted() -> int:
-    """How many checks the gate's comparison makes or skips: each question, each error that is planted, and either the
-    sets or the units, which no gimli here has both."""
-    lists = [LISTED.findall(kit.text_of(f"{kit.ROOT}/compare/src/{it}.rs")) for it in ("question", "plain")]
-    return 1 + sum(len(re.findall(r'^    \w+ "[\w-]+",$', text, re.M)) for found in lists for text in found)
+def show(line: str) -> None:
+    print(line, end="", flush=True)
 
 
-CHECKS = counted()
+def plants() -> list[str]:
+    """The errors that can be planted."""
+    found = PLANTS.findall(kit.text_of(f"{kit.ROOT}/compare/src/plain.rs"))
+    return [it for text in found for it in re.findall(r'^    \w+ "([\w-]+)",$', text, re.M)]
+
+
+def states_of(said: str, status: int) -> frame.States:
+    """What the program says of each question and of each planted error, if it ended with this status."""
+    states = {f"question/{it}": State(FAILED if int(count) else PASSED) for it, count in QUESTION.findall(said)}
+    if states:
+        for name, why in LEFT_OUT.items():
+            states[f"gimli/{name}"] = State(SKIPPED, why) if f"left out: {why}\n" in said else State(PASSED)
+        others = OTHERS.search(said)
+        states["other readers"] = State(PASSED if others and int(others[1]) else FAILED)
+    if short := SHORT.search(said):
+        states["short inputs"] = State(PASSED, count=int(short[1]))
+    states.update((f"plant/{it}", State(FAILED if lost else PASSED)) for it, lost in PLANT.findall(said))
+    if left := LEFT_PLANTS.search(said):
+        unseen = [it for it in plants() if f"plant/{it}" not in states]
+        well = len(unseen) == int(left[2])
+        states.update((f"plant/{it}", State(SKIPPED if well else FAILED, left[1])) for it in unseen)
+    if status and not any(it.state == FAILED for it in states.values()):
+        states["status"] = State(FAILED, f"the program that compares ended with status {status}")
+    return states
+
+
 Command = Callable[[argparse.Namespace], int]
 # What each command does, and which options it takes, or files. Without a name it compares.
 COMMANDS: dict[Optional[str], tuple[Command, str]] = {
@@ -173,8 +207,6 @@ def read_words(words: list[str]) -> tuple[Command, argparse.Namespace]:
 
 
 def main(words: list[str]) -> int:
-    if words in (["-h"], ["--help"]):
-        return frame.usage(__doc__, words)
     command, given = read_words(words)
     try:
         check_files(given.files)
@@ -182,8 +214,7 @@ def main(words: list[str]) -> int:
     except Missing as error:
         say(error)
         if given.or_skip:
-            print(f"0 passed, 0 failed, {CHECKS} skipped")
-            return 0
+            return frame.end("compare", {it: State(SKIPPED, str(error)) for it in floor.sections()["compare"]})
     except Failed as error:
         say(error)
     return 2

@@ -516,27 +516,52 @@ def uncited(files: Sequence[tuple[str, str, str]], pages: Iterable[str]) -> Iter
                 yield f"{path}: nothing cites {name}"
 
 
-def check() -> int:
-    """Prints a line for each fault of the pages, and returns the exit status."""
-    paths = {it: f"crates/{it}/CALLING.md" for it in QUOTED}
-    there = {it: kit.text_of(f"{kit.ROOT}/{path}") for it, path in paths.items()}
-    faults = [f"{paths[it]} isn't what tools/api would write" for it in QUOTED if text_of(it, there[it]) != there[it]]
-    found = [*examples()]
-    faults += [*misnamed(), *without_row(), *absent(), *misplaced(), *without_caller(found)]
-    files = [*citing()]
-    faults += [*private(files), *unlisted(there.items()), *uncited(files, there.values())]
-    print("\n".join(faults or [f"the public calls are listed as they are, and {len(found)} examples are in a caller"]))
-    return 1 if faults else 0
+def page_of(crate: str) -> str:
+    """The page of a crate."""
+    return kit.text_of(f"{kit.ROOT}/crates/{crate}/CALLING.md")
+
+
+class Pages(frame.Check):
+    """The pages fit the sources."""
+
+    @frame.each(QUOTED)
+    def test_quoted(self, crate: str) -> None:
+        there = page_of(crate)
+        assert text_of(crate, there) == there, f"crates/{crate}/CALLING.md isn't what tools/api would write"
+
+    def test_names_of_quoted(self) -> None:
+        self.assertEqual([*misnamed()], [])
+
+    def test_rows_of_calls(self) -> None:
+        self.assertEqual([*without_row()], [])
+
+    def test_names_of_proved(self) -> None:
+        self.assertEqual([*absent()], [])
+
+    def test_preconditions(self) -> None:
+        self.assertEqual([*misplaced()], [])
+
+    def test_examples(self) -> None:
+        self.assertEqual([*without_caller(examples())], [])
+
+    def test_lemmas_of_other_crates(self) -> None:
+        self.assertEqual([*private(citing())], [])
+
+    def test_lists_of_lemmas(self) -> None:
+        self.assertEqual([*unlisted((it, page_of(it)) for it in QUOTED)], [])
+
+    def test_citations(self) -> None:
+        self.assertEqual([*uncited([*citing()], map(page_of, QUOTED))], [])
 
 
 def main(words: list[str]) -> int:
     if words == ["--check"]:
-        return check()
+        return frame.check("api", [Pages], section="api")
     if len(words) == 1 and words[0] in CRATES:
         print("\n".join(contracts(words[0])))
         return 0
     if words:
-        return frame.usage(__doc__, words, f"api: no library crate: {' '.join(words)}")
+        return frame.usage(__doc__, f"api: no library crate: {' '.join(words)}")
     if faults := [*misnamed()]:
         print("\n".join(faults), file=sys.stderr)
         return 1

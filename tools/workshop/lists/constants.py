@@ -250,22 +250,31 @@ def unpaired(constants: Constants) -> list[str]:
     return [f"{name}=0x{value:02x}: {what}" for rows, what in sides for name, value in sorted(rows)]
 
 
+def stale(constants: Constants) -> list[tuple[pathlib.Path, str]]:
+    """The files that aren't as declared, each with the text that it should have."""
+    return [(path, text) for path, text in files(constants) if not path.is_file() or path.read_text() != text]
+
+
+class Lists(frame.Check):
+    """The lists are as the constants are declared, and each constant is as it is published."""
+
+    def test_files(self) -> None:
+        names = [str(path.relative_to(CRATES.parent)) for path, _ in stale(Constants())]
+        self.assertEqual(names, [], "not as declared")
+
+    def test_published(self) -> None:
+        self.assertEqual(unpaired(Constants()), [])
+
+
 def main(words: list[str]) -> int:
-    if words not in ([], ["--check"]):
-        return frame.usage(__doc__, words)
-    constants = Constants()
-    stale = [(path, text) for path, text in files(constants) if not path.is_file() or path.read_text() != text]
-    for path, text in stale:
-        print(f"{path.relative_to(CRATES.parent)}: {'not as declared' if words else 'written'}")
-        if not words:
-            path.write_text(text)
+    if words == ["--check"]:
+        return frame.check("constants", [Lists], section="constants")
     if words:
-        lacking = unpaired(constants)
-        for it in lacking:
-            print(it)
-        total = f"{sum(map(len, constants.modules.values()))} constants of {len(constants.types)} types"
-        print(f"{total}, {len(stale)} files that aren't as declared, {len(lacking)} values that aren't as published")
-        return 1 if stale or lacking else 0
-    for crate in sorted({path.relative_to(CRATES).parts[0] for path, _ in stale if CRATES in path.parents}):
+        return frame.usage(__doc__)
+    written = stale(Constants())
+    for path, text in written:
+        print(f"{path.relative_to(CRATES.parent)}: written")
+        path.write_text(text)
+    for crate in sorted({path.relative_to(CRATES).parts[0] for path, _ in written if CRATES in path.parents}):
         subprocess.run(["rt", "fmt"], cwd=CRATES / crate, check=True)
     return 0

@@ -7,8 +7,9 @@ import tempfile
 import unittest
 from unittest import mock
 
-from workshop import kit
+from workshop import frame, kit
 from workshop.lists import api
+from workshop.script_tests import failed
 
 
 class Pages(unittest.TestCase):
@@ -30,18 +31,27 @@ class Pages(unittest.TestCase):
 
     def test_check(self) -> None:
         """The check fails for a line of any of these, and for a page that isn't what would be written."""
-        names = ("misnamed", "without_row", "absent", "misplaced", "without_caller", "private", "unlisted", "uncited")
-        other = "crates/dwarf_read_core/CALLING.md isn't what tools/api would write"
-        for faulty in (*names, "text_of"):
+        names = {
+            "misnamed": "names_of_quoted",
+            "without_row": "rows_of_calls",
+            "absent": "names_of_proved",
+            "misplaced": "preconditions",
+            "without_caller": "examples",
+            "private": "lemmas_of_other_crates",
+            "unlisted": "lists_of_lemmas",
+            "uncited": "citations",
+            "text_of": "quoted/dwarf_read_core",
+        }
+        self.assertEqual(len(names) + len(api.QUOTED) - 1, len(frame.tests_of([api.Pages])))
+        for faulty, name in names.items():
             self.put("text_of", lambda crate, text: text)
-            for it in names:
+            for it in [*names][:-1]:
                 self.put(it, lambda *_: [])
             if faulty == "text_of":
                 self.put(faulty, lambda crate, text: text + "more" * (crate == "dwarf_read_core"))
             else:
-                self.put(faulty, lambda *_: [other])
-            with contextlib.redirect_stdout(io.StringIO()) as said:
-                self.assertEqual((api.check(), said.getvalue()), (1, f"{other}\n"), faulty)
+                self.put(faulty, lambda *_: ["a fault"])
+            self.assertEqual(failed(api.Pages), [f"api.Pages.{name}"])
             self.doCleanups()
 
     def test_call_without_row(self) -> None:

@@ -1,13 +1,12 @@
 """Tests of what tools/assembler says of the files in the repository."""
-import contextlib
-import io
-import os
 import tempfile
 import unittest
 from unittest import mock
 
-from workshop import frame, kit
+from workshop import kit
 from workshop.code import assembler, products, systems
+from workshop.frame import FAILED, PASSED, SKIPPED
+from workshop.script_tests import came_of, state_of
 
 CRATE = "dwarf_read_c"
 NAME = "aarch64"
@@ -20,18 +19,16 @@ CODE = "\t.file\t\"rattle\"\n\tnop\n"
 class Judging(unittest.TestCase):
     """A file is current if each byte is what is made of the sources, by this kit or by the one that it names."""
 
-    def judge(self, text: str, made: str, version: str) -> tuple[int, int, int]:
-        """What is counted of a file with this text where this kit makes this code: passed, failed and skipped."""
-        with tempfile.TemporaryDirectory() as folder, contextlib.redirect_stdout(io.StringIO()):
+    def judge(self, text: str, made: str, version: str) -> str:
+        """The state of a file with this text where this kit makes this code."""
+        with tempfile.TemporaryDirectory() as folder:
             kept = f"{folder}/kept"
             kit.put(kept, made)
             if text:
                 kit.put(f"{folder}/{NAME}.s", text)
-            now = frame.Checks("assembler", folder)
             with mock.patch.multiple(products, FILES={CRATE: folder}, place_of_copy=lambda *_: kept):
                 with mock.patch.object(kit, "version", lambda: version):
-                    assembler.judge(now, CRATE, NAME, SOURCES)
-        return now.passed, now.failed, now.skipped
+                    return state_of(lambda: assembler.judge(CRATE, NAME, SOURCES))
 
     def test_files(self) -> None:
         this, another = kit.KITS
@@ -39,23 +36,41 @@ class Judging(unittest.TestCase):
         stale = assembler.head(CRATE, NAME, "4567  a source\n", this)
         unknown = assembler.head(CRATE, NAME, SOURCES, "rattle-kit-99z")
         other = CODE.replace("nop", "ret")
-        # What the file is, what this kit makes, what it is called, and what is counted.
+        # What the file is, what this kit makes, what it is called, and the state.
         rows = [
-            (head + CODE, CODE, this, (1, 0, 0)),
-            (head + other, CODE, this, (0, 1, 0)),
-            (head.replace("proved", "Proved") + CODE, CODE, this, (0, 1, 0)),
-            (head + CODE + "\n", CODE, this, (0, 1, 0)),
-            (stale + CODE, CODE, this, (0, 1, 0)),
-            ("", CODE, this, (0, 1, 0)),
-            (head + CODE, CODE, another, (1, 0, 0)),
-            (head + CODE, other, another, (0, 0, 1)),
-            (stale + CODE, other, another, (0, 1, 0)),
-            (unknown + CODE, CODE, this, (0, 1, 0)),
-            (unknown + CODE, other, this, (0, 1, 0)),
-            (CODE, CODE, this, (0, 1, 0)),
+            (head + CODE, CODE, this, PASSED),
+            (head + other, CODE, this, FAILED),
+            (head.replace("proved", "Proved") + CODE, CODE, this, FAILED),
+            (head + CODE + "\n", CODE, this, FAILED),
+            (stale + CODE, CODE, this, FAILED),
+            ("", CODE, this, FAILED),
+            (head + CODE, CODE, another, PASSED),
+            (head + CODE, other, another, SKIPPED),
+            (stale + CODE, other, another, FAILED),
+            (unknown + CODE, CODE, this, FAILED),
+            (unknown + CODE, other, this, FAILED),
+            (CODE, CODE, this, FAILED),
         ]
         for text, made, version, wanted in rows:
             self.assertEqual(self.judge(text, made, version), wanted, (text, made, version))
+
+
+    def test_check(self) -> None:
+        """Each file is judged, and fails if its code isn't made."""
+        every = [f"{name} of {crate}" for crate in products.FILES for name in products.CODE[crate]]
+        judged: list[str] = []
+
+        def judge(crate: str, name: str, of_sources: str) -> None:
+            judged.append(f"{name} of {crate}")
+            assert name != NAME
+
+        for is_made in (True, False):
+            made = mock.Mock(side_effect=None if is_made else AssertionError)
+            with mock.patch.multiple(assembler, judge=judge, make_once=made, are_of=lambda *_: True):
+                states = came_of(assembler.Files)
+            wanted = {it: FAILED if not is_made or it.startswith(NAME + " ") else PASSED for it in every}
+            self.assertEqual(states, {f"assembler.Files.file/{it}": state for it, state in wanted.items()})
+        self.assertEqual(sorted(judged), sorted(every))
 
 
 class Lines(unittest.TestCase):

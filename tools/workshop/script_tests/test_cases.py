@@ -1,11 +1,13 @@
 """Tests of how `tools/cases` reads the worked cases, and of what it accepts as printed."""
-import glob
 import os
+import re
 import tempfile
 import unittest
+from unittest import mock
 
-from workshop import kit
+from workshop import frame, kit
 from workshop.checks import cases
+from workshop.script_tests import came_of, failed
 
 PAGE = """\
 Text between the blocks is of no run.
@@ -42,13 +44,30 @@ class Reading(unittest.TestCase):
         ]
         self.assertEqual(found, wanted)
 
-    def test_count(self) -> None:
-        """The gate counts the cases by their first lines, and each file has some."""
-        files = glob.glob(f"{kit.ROOT}/crates/dwarf_list/cases/*.md")
-        counts = [len(cases.cases_of(it)) for it in files]
-        self.assertEqual(len(cases.all_cases()), sum(counts))
-        self.assertEqual(kit.worked_cases(), sum(counts))
-        self.assertTrue(files and all(counts))
+    def test_all(self) -> None:
+        """Each line that begins as a case does is one, and its name is its own."""
+        for name in cases.FILES:
+            path = f"{cases.FOLDER}/{name}.md"
+            found = cases.cases_of(path)
+            self.assertEqual(len(found), len(re.findall(r"^\$ dwarf_list\b", kit.text_of(path), re.M)), name)
+            self.assertTrue(found, name)
+            self.assertEqual(len({*cases.names_of(found)}), len(found), name)
+
+    def test_any_line(self) -> None:
+        """No case leaves a whole line open."""
+        self.assertEqual([it.place for it in cases.all_cases() if "..." in map(str.strip, it.lines)], [])
+
+    def test_names(self) -> None:
+        rows = [
+            ("str 0 < 61 00", "str 0 < 61 00"),
+            ("uleb 5", "uleb 5"),
+            ("", "no words"),
+            ("abbrev 0 <", "abbrev 0"),
+            ("str 'a, b: c/d'", "str 'a_ b_ c_d'"),
+            ("str 0 < " + 40 * "00 ", "str 0 < 00 00 00 00 00 00 00 00 00 00 00 00 00 00 00 00.. 40 bytes"),
+            ("uleb 5", "uleb 5 again 2"),
+        ]
+        self.assertEqual(cases.names_of(cases.Case("here", it) for it, _ in rows), [name for _, name in rows])
 
 
 class Judging(unittest.TestCase):
@@ -76,3 +95,18 @@ class Judging(unittest.TestCase):
         for lines, status, came, is_met in self.ROWS:
             case = cases.Case("here", "", lines, status)
             self.assertEqual(case.is_met(*came), is_met, (lines, came))
+
+    def test_check(self) -> None:
+        """A case that isn't met fails by its name, and each file does if there is no program."""
+        with tempfile.TemporaryDirectory() as folder:
+            for name in cases.FILES:
+                kit.put(f"{folder}/{name}.md", PAGE)
+            kit.put(f"{folder}/program", '#!/bin/sh\n[ "$1 $2" = "str 0" ] || exit 2\necho a; echo and more\n')
+            os.chmod(f"{folder}/program", 0o755)
+            wanted = {"str 0 < 61 00": frame.PASSED, "str 9 < 61": frame.FAILED, "uleb 0": frame.FAILED}
+            with mock.patch.multiple(cases, FOLDER=folder, program=lambda _: f"{folder}/program"):
+                states = came_of(cases.Cases)
+            with mock.patch.object(cases, "program", mock.Mock(side_effect=AssertionError)):
+                self.assertEqual(failed(cases.Cases), [f"cases.Cases.file/{it}" for it in cases.FILES])
+        named = {f"cases.Cases.file/{name}/{it}": state for name in cases.FILES for it, state in wanted.items()}
+        self.assertEqual(states, named)

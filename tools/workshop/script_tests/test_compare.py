@@ -2,7 +2,6 @@
 import argparse
 import contextlib
 import io
-import os
 import tempfile
 import unittest
 from unittest import mock

@@ -1,115 +1,134 @@
-"""Tests of how the gate and `tools/tests` judge what their steps say."""
+"""Tests of how the gate judges what its steps report, and what `rt ci` says."""
 import contextlib
 import glob
 import io
 import os
 import re
 import shutil
+import subprocess
 import tempfile
 import unittest
 from typing import Optional
 from unittest import mock
 
-from workshop import frame, gate, kit, tests, wrong_bodies
+from workshop import floor, gate, kit, tests, wrong_bodies
 from workshop.code import products
+from workshop.frame import FAILED, PASSED, SKIPPED, State, States
 
 PROVED = "".join(f"rt: {it} proved\n" for it in kit.CRATES)
-REFUSED = "rt: must-fail a/b.edit: refused, as it must be: src/lib.rt:1:1: error\n"
-RAN = "test result: ok. 2 passed; 0 failed\ntest result: ok. 3 passed; 0 failed\n"
+RAN = "test tests::a ... ok\ntest tests::b ... ok\ntest tests::a ... ok\n"
+# A section with a check that may be skipped.
+KNOWN = {"some": {"one": (0, False), "two": (3, False), "three": (0, True)}}
+WELL = {"one": State(PASSED), "two": State(PASSED, count=3), "three": State(PASSED)}
 
 
 class Judging(unittest.TestCase):
-    """Each row is what a step said, its status, how many checks it has to make, and the counts of the gate."""
+    """What a step reports, how it ends, and what the gate says of it."""
 
-    ROWS = [
-        ("3 passed, 0 failed\n", 0, 3, (3, 0, 0)),
-        ("a line\n2 passed, 0 failed, 1 skipped\n", 0, 3, (2, 0, 1)),
-        ("0 passed, 0 failed, 3 skipped\n", 0, 3, (0, 1, 3)),
-        ("2 passed, 1 failed\n", 1, 3, (2, 1, 0)),
-        ("2 passed, 0 failed\n", 0, 3, (2, 1, 0)),
-        ("4 passed, 0 failed\n", 0, 3, (4, 1, 0)),
-        ("2 passed, 0 failed, 2 skipped\n", 0, 3, (2, 1, 2)),
-        ("3 passed, 0 failed\n", 1, 3, (3, 1, 0)),
-        ("2 passed, 1 failed\n", 0, 3, (2, 2, 0)),
-        ("3 passed, 0 failed\nand more\n", 0, 3, (0, 1, 0)),
-        ("", 0, 0, (0, 1, 0)),
-    ]
+    def failed(self, section: str, states: Optional[States], status: int, may_skip: bool = False) -> list[str]:
+        """What the gate says that failed besides the checks of a step."""
+        now = gate.Gate(may_skip)
+        with contextlib.redirect_stdout(io.StringIO()), mock.patch.object(floor, "sections", lambda: KNOWN):
+            now.judge(section, states, status)
+        wanted = {f"some: {name}": it for name, it in (states or {}).items()}
+        self.assertEqual({name: it for name, it in now.states.items() if name in wanted}, wanted)
+        return [name for name in now.states if name not in wanted]
 
     def test_steps(self) -> None:
-        for said, status, wanted, counts in self.ROWS:
-            now = gate.Gate("")
-            with contextlib.redirect_stdout(io.StringIO()):
-                now.judge("a step", said, status, wanted)
-            self.assertEqual((now.passed, now.failed, now.skipped), counts, said)
-
-    def test_kit_may_count_more(self) -> None:
-        """Only what the kit counts may be more than what is here."""
-        for made, failed in ((2, 1), (3, 0), (4, 0)):
-            now = gate.Gate("")
-            with contextlib.redirect_stdout(io.StringIO()):
-                now.judge("a step", f"{made} passed, 0 failed\n", 0, 3, is_exact=False)
-            self.assertEqual((now.passed, now.failed), (made, failed))
-
-    def test_ends(self) -> None:
-        """A run of checks ends well if it made or skipped exactly as many as there are."""
-        # How many there are, and how many passed, failed and were skipped; the last line, and the status.
-        rows: list[tuple[Optional[int], tuple[int, int, int], str, int]] = [
-            (3, (3, 0, 0), "3 passed, 0 failed, 0 skipped", 0),
-            (3, (1, 0, 2), "1 passed, 0 failed, 2 skipped", 0),
-            (3, (0, 0, 3), "0 passed, 0 failed, 3 skipped", 0),
-            (3, (2, 1, 0), "2 passed, 1 failed, 0 skipped", 1),
-            (3, (2, 0, 0), "2 passed, 1 failed, 0 skipped", 1),
-            (3, (1, 0, 1), "1 passed, 1 failed, 1 skipped", 1),
-            (3, (4, 0, 0), "4 passed, 1 failed, 0 skipped", 1),
-            (3, (3, 0, 1), "3 passed, 1 failed, 1 skipped", 1),
-            (None, (9, 0, 0), "9 passed, 0 failed, 0 skipped", 0),
-            (None, (0, 0, 0), "0 passed, 1 failed, 0 skipped", 1),
+        skipped = State(SKIPPED, "there is no cc")
+        lacking = "some: one was neither made nor skipped"
+        allowed = "some: two was skipped, since there is no cc, and isn't one that may be"
+        fewer = "some: two made 2 comparisons, and tools/checks.txt has 3"
+        # What a step reports, its status, and what the gate says of it: always, and without --or-skip.
+        rows: list[tuple[Optional[States], int, list[str], list[str]]] = [
+            (WELL, 0, [], []),
+            ({**WELL, "three": skipped}, 0, [], []),
+            ({**WELL, "two": skipped}, 0, [], [allowed]),
+            ({**WELL, "two": State(PASSED, count=2)}, 0, [fewer], []),
+            ({**WELL, "two": State(FAILED, "no")}, 1, [], []),
+            ({**WELL, "two": State(FAILED, "no")}, 0, ["some ended with status 0, and 1 of its checks failed"], []),
+            (WELL, 1, ["some ended with status 1, and 0 of its checks failed"], []),
+            ({it: WELL[it] for it in ("two", "three")}, 0, [lacking], []),
+            ({**WELL, "four": State(PASSED)}, 0, ["some: tools/checks.txt lacks, in its section some: four"], []),
+            (None, 0, ["some ended without its checks"], []),
+            ({}, 0, ["some ended without its checks"], []),
         ]
-        for wanted, (passed, failed, skipped), line, status in rows:
-            now = frame.Checks("some", "")
-            with contextlib.redirect_stdout(io.StringIO()) as said:
-                for it in (True,) * passed + (False,) * failed:
-                    now.tell(it, "a check")
-                if skipped:
-                    self.assertFalse(now.has("checks", "no-such-program", count=skipped))
-                self.assertEqual(now.end(wanted), status)
+        for states, status, wanted, strictly in rows:
+            with self.subTest(states=states, status=status):
+                self.assertEqual(self.failed("some", states, status, may_skip=True), wanted)
+                self.assertEqual(self.failed("some", states, status), wanted + strictly)
+
+    def test_all_skipped(self) -> None:
+        states = {it: State(SKIPPED, "there is no cc") for it in WELL}
+        self.assertEqual(self.failed("some", states, 0, may_skip=True), ["some skipped all of its checks"])
+
+    def test_reports(self) -> None:
+        """A step that ends well and reports nothing has failed, as one that only prints its help."""
+        for words in (["tools/constants", "--help"], ["tools/api", "--help"]):
+            now = gate.Gate()
+            with contextlib.redirect_stdout(io.StringIO()):
+                now.step("constants", words)
+            self.assertEqual([*now.states], ["constants ended without its checks"])
+
+    def test_end(self) -> None:
+        """The last line counts all checks, and the status is 1 if one failed."""
+        for last, status in ((PASSED, 0), (SKIPPED, 0), (FAILED, 1)):
+            now = gate.Gate()
+            now.states = {**WELL, "four": State(last)}
+            with contextlib.redirect_stdout(io.StringIO()) as said, mock.patch.multiple(
+                gate, FIRST={}, prove=lambda _: True, DISK_BYTES=0
+            ), mock.patch.object(kit, "side_by_side", lambda *_: []):
+                self.assertEqual(gate.gate(now), status)
+            line = f"{4 if last == PASSED else 3} passed, {int(last == FAILED)} failed, {int(last == SKIPPED)} skipped"
             self.assertEqual(said.getvalue().splitlines()[-1], line)
 
-    def test_counts(self) -> None:
-        rows = [
-            ("1 passed, 9 failed\ntest result: FAILED. 3 passed; 1 failed\n", (3, 1, 0)),
-            ("7 passed, 0 failed, 2 skipped\n", (7, 0, 2)),
-            ("Ran 26 tests in 0.1s\n\nOK\n", (26, 0, 0)),
-            ("Ran 26 tests in 0.1s\n\nOK (skipped=2)\n", (24, 0, 2)),
-            ("Ran 26 tests in 0.1s\n\nFAILED (failures=1)\n", (0, 0, 0)),
-            ("Success: no issues found in 32 source files\n", (1, 0, 0)),
-            ("Found 1 error in 1 file (checked 32 source files)\n", (0, 0, 0)),
+    def test_tests(self) -> None:
+        """The tests that a runner names are found, with whether each passed."""
+        said = "     Running unittests src/lib.rs (target/x)\ntest a::b ... ok\ntest a::c ... FAILED\n"
+        said += "   Doc-tests dwarf_read\ntest src/lib.rs - Table (line 3) ... ok\ntest src/lib.rs - Table (line 9) - compile ... ok\n"
+        wanted = [
+            ("lib.rs a::b", True),
+            ("lib.rs a::c", False),
+            ("dwarf_read src.lib.rs - Table", True),
+            ("dwarf_read src.lib.rs - Table again 2", True),
         ]
-        for said, counts in rows:
-            self.assertEqual(tests.counts(said), counts, said)
+        self.assertEqual(tests.tested(said), wanted)
+        self.assertEqual(tests.tested("test tests::a ... ok\n"), [("tests::a", True)])
+
+    def test_proofs(self) -> None:
+        first = [*kit.CRATES][0]
+        refused = "rt: must-fail a/b.edit: refused, as it must be: src/lib.rt:1:1: error\n"
+        kept = PROVED.replace(f"rt: {first} proved", f"rt: {first} is kept: an earlier run")
+        by_name = refused.replace("be: ", "be (only because a proof file names what the edit took away): ")
+        body = "the wrong body a/b.edit"
+        twice = "the test tests::b was proved and run 0 times, and tools/checks.txt has it 1 times"
+        # What `rt ci` says, and what the gate says of it.
+        rows = [
+            (PROVED + refused + RAN, []),
+            (kept + refused + RAN, []),
+            (PROVED.partition("\n")[2] + refused + RAN, [f"proofs: crate/{first} was neither made nor skipped"]),
+            (PROVED + by_name + RAN, [f"{body} isn't refused by a contract"]),
+            (PROVED + refused.replace("lib.rt:1:1", "lib.rt:2:1") + RAN, [f"{body} is refused elsewhere"]),
+            (PROVED + RAN, [f"{body} isn't refused by a contract"]),
+            (PROVED + refused + RAN.replace("test tests::b ... ok\n", ""), [twice]),
+            (PROVED + refused + RAN.replace("test tests::b ... ok\n", "test tests::b ... FAILED\n"), [twice]),
+        ]
+        known = {f"crate/{it}": (0, False) for it in kit.CRATES} | {"body/a/b": (0, False)}
+        names = (f"{first}/tests::a", f"{first}/tests::b", f"{[*kit.CRATES][1]}/tests::a")
+        tests_known = {f"tests.Rattle.crate/{it}": (0, False) for it in names}
+        for said, wanted in rows:
+            now = gate.Gate()
+            with contextlib.redirect_stdout(io.StringIO()), mock.patch.object(wrong_bodies, "judge", self.judge), \
+                mock.patch.object(floor, "sections", lambda: {"proofs": known, "tests": tests_known}), \
+                mock.patch.object(gate, "bodies", lambda: ["a/b.edit"]):
+                gate.judge_proofs(now, said, 0)
+            found = [it.why for it in now.states.values() if it.state == FAILED]
+            self.assertEqual(found, wanted, said)
 
     @staticmethod
     def judge(body: str, line: str) -> Optional[str]:
         """What `judge` says if this one line agrees with what the wrong body says."""
         return None if (body, line) == ("a/b.edit", "src/lib.rt:1:1: error") else "is refused elsewhere"
-
-    def test_proofs(self) -> None:
-        kept = PROVED.replace(f"rt: {[*kit.CRATES][0]} proved", f"rt: {[*kit.CRATES][0]} is kept: an earlier run")
-        by_name = REFUSED.replace("be: ", "be (only because a proof file names what the edit took away): ")
-        rows = [
-            (PROVED + REFUSED + RAN, 0),
-            (kept + REFUSED + RAN, 0),
-            (PROVED.partition("\n")[2] + REFUSED + RAN, 1),
-            (PROVED + by_name + RAN, 1),
-            (PROVED + REFUSED.replace("lib.rt:1:1", "lib.rt:2:1") + RAN, 1),
-            (PROVED + RAN, 1),
-            (PROVED + REFUSED, 1),
-        ]
-        for said, failed in rows:
-            now = gate.Gate("")
-            with contextlib.redirect_stdout(io.StringIO()), mock.patch.object(wrong_bodies, "judge", self.judge):
-                gate.judge_proofs(now, said, ["a/b.edit"], 5)
-            self.assertEqual(now.failed, failed, said)
 
     def test_libraries(self) -> None:
         """The code of the static libraries is made in the checkout if `rt ci` left its own libraries there, and none is
@@ -118,49 +137,38 @@ class Judging(unittest.TestCase):
         # The crates with a library before `rt ci` and after it, and whether the code is then made.
         rows = [([], every, True), (every[:1], every, False), ([], every[1:], False), ([], [], False)]
         for before, after, is_built in rows:
-            now = gate.Gate("")
+            now = gate.Gate()
             names = ("lacking", "put_assembler")
             with tempfile.TemporaryDirectory() as root, mock.patch.object(kit, "ROOT", root), mock.patch.multiple(
-                gate, read_bodies=mock.DEFAULT, judge_proofs=mock.DEFAULT, keep_programs=mock.DEFAULT
+                gate, judge_proofs=mock.DEFAULT, keep_programs=mock.DEFAULT
             ), mock.patch.multiple(products, sums=str, code_of=str, **dict.fromkeys(names, mock.DEFAULT)) as made:
                 made["lacking"].return_value = ["a target"]
                 for it in before:
                     os.makedirs(f"{root}/crates/{it}/out/rlib")
 
-                def prove(*_: object, env: object, is_exact: object, root: str = root, after: list[str] = after) -> str:
+                def prove(*_: object, root: str = root, after: list[str] = after, **__: object) -> kit.Finished:
                     for it in after:
                         os.makedirs(f"{root}/crates/{it}/out/rlib", exist_ok=True)
-                    return ""
+                    return subprocess.CompletedProcess([], 0, "")
 
-                with mock.patch.object(now, "step", prove):
-                    self.assertTrue(gate.prove(now, 0))
+                with mock.patch.object(kit, "run", prove), contextlib.redirect_stdout(io.StringIO()):
+                    self.assertTrue(gate.prove(now))
             built = [it.args[:2] for it in made["put_assembler"].call_args_list]
             wanted = [(crate, "a target") for crate in products.CODE] if is_built else []
-            self.assertEqual((built, now.failed), (wanted, 0), (before, after))
+            self.assertEqual((built, now.states), (wanted, {}), (before, after))
 
     def test_steps_of_the_page(self) -> None:
-        """The gate runs the steps of the page's table, each once."""
+        """The gate runs the steps of the page's table, each once, and each is a section of `tools/checks.txt`."""
         text = kit.text_of(f"{kit.ROOT}/CONTRIBUTING.md").partition("\n## The gate\n")[2].partition("\n## ")[0]
         listed = [it for row in re.findall(r"^\| (`.*?) \| ", text, re.M) for it in re.findall(r"`([^`]+)`", row)]
         listed = [it for it in listed if not it.startswith("tools/")]
-        begun: list[list[str]] = []
-
-        def begin(_: object, words: list[str], *__: object, **___: object) -> str:
-            begun.append(words)
-            return "well"
-
-        now = gate.Gate("/")
-        steps = mock.Mock(side_effect=lambda rows: [begin(*it) for it in rows])
-        rest = dict.fromkeys(("judge_proofs", "keep_programs", "keep_code"), mock.DEFAULT)
-        with mock.patch.multiple(now, run=begin, step=begin, steps_at_once=steps, end=lambda: 0), mock.patch.multiple(
-            gate, read_bodies=lambda _: [], checks_of=lambda _: 1, has_library=lambda _: False, DISK_BYTES=0, **rest
-        ):
-            self.assertEqual(gate.gate(now), 0)
-        begun = [[os.path.relpath(it[0], kit.ROOT) if "/" in it[0] else it[0], *it[1:]] for it in begun]
+        begun = [*gate.FIRST.values(), ["rt", "ci"], *gate.LAST.values()]
         commands = [" ".join(it).removeprefix("tools/") for it in begun]
+        commands = [it.replace("gate --layout", "rattle fmt --check") for it in commands]
         self.assertEqual(len(commands), len(listed), commands)
         for name in listed:
             self.assertEqual(sum(f"{it} ".startswith(f"{name} ") for it in commands), 1, (name, commands))
+        self.assertEqual({*floor.sections()}, {*gate.FIRST, "proofs", *gate.LAST})
 
     def test_jobs(self) -> None:
         """`rt ci` makes as many checks at a time as there is room for, unless RT_JOBS says how many."""
