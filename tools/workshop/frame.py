@@ -257,7 +257,7 @@ def end(command: str, states: States, more: int = 0) -> int:
     if not states:
         print(f"{command}: no check was made or skipped: FAILED")
     if Requested.report:
-        kit.put(Requested.report, json.dumps({name: asdict(it) for name, it in states.items()}))
+        kit.write_file(Requested.report, json.dumps({name: asdict(it) for name, it in states.items()}))
     print("{} passed, {} failed, {} skipped".format(*counts))
     return 1 if counts[1] or not states else 0
 

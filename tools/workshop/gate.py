@@ -26,7 +26,7 @@ from collections import Counter
 from typing import Any, Optional
 
 from workshop import floor, frame, kit, wrong_bodies
-from workshop.code import products
+from workshop.code import products, proving
 from workshop.frame import FAILED, PASSED, SKIPPED, State, States
 
 # What the run needs of disk: the libraries, what their proofs keep, and what the wrong bodies begin with.
@@ -163,7 +163,7 @@ def keep_programs(now: Gate, before: dict[str, str]) -> None:
             continue
         for it in (program, f"{program}_tests"):
             if os.path.isfile(it):
-                products.put(it, it, of_sources)
+                products.keep(it, it, of_sources)
 
 
 def has_library(crate: str) -> bool:
@@ -177,7 +177,7 @@ def keep_code(now: Gate) -> None:
     for crate in products.CODE:
         of_code = products.code_of(crate)
         lacking = products.lacking(crate, of_code)
-        calls += [(products.put_assembler, crate, it, kit.ROOT, of_code, now.say) for it in lacking]
+        calls += [(proving.put_assembler, crate, it, kit.ROOT, of_code, now.say) for it in lacking]
     for is_made in kit.side_by_side(max(1, len(calls)), calls):
         if not is_made:
             now.fail("code isn't made")

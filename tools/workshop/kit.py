@@ -33,7 +33,7 @@ def text_of(path: str) -> str:
         return file.read()
 
 
-def put(path: str, content: Union[str, bytes]) -> None:
+def write_file(path: str, content: Union[str, bytes]) -> None:
     """Writes a text or bytes to a file, in a folder that is made if there is none."""
     os.makedirs(os.path.dirname(path), exist_ok=True)
     with open(path, "wb") as file:

@@ -2,7 +2,7 @@
 
     tools/tests              all of them
     tools/tests CRATE..      the tests of these crates in Rattle
-    tools/tests scripts      those of the scripts and pages
+    tools/tests scripts      those of the scripts and pages; the names of some may follow
 
 Without the Rattle kit these are the worked cases of dwarf_list, the example and the tests in C, the tests of the crate
 for Rust and of dwarf_elf, and those of the scripts. They run the proved code that the repository has as assembler
@@ -106,13 +106,15 @@ def script_tests() -> list[object]:
     return [importlib.import_module(f"workshop.script_tests.{it}") for it in names]
 
 
+CHECKS = [Rattle, Rust, *cases.CHECKS, *c.SHORT, Scripts]
+
+
 def main(words: list[str]) -> int:
     unknown = [it for it in words if it not in kit.CRATES or not kit.tests_in(it)]
-    if words == ["scripts"]:
-        return frame.check("tests", script_tests(), lanes=1)
+    if words[:1] == ["scripts"]:
+        return frame.check("tests", script_tests(), words[1:], lanes=1)
     if unknown:
         return frame.usage(__doc__, f"tests: no crate with tests: {' '.join(unknown)}")
     if words:
         return frame.check("tests", [Rattle], [f"Rattle.crate/{it}" for it in words])
-    checks = [Rattle, Rust, cases.Cases, *c.SHORT, Scripts]
-    return frame.check("tests", checks, section="tests", lanes=kit.lanes(TRY_BYTES))
+    return frame.check("tests", CHECKS, section="tests", lanes=kit.lanes(TRY_BYTES))

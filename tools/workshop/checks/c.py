@@ -153,7 +153,7 @@ def wine() -> dict[str, str]:
 def sanitizers(compiler: str) -> None:
     """Skips the check if a compiler has no sanitizers."""
     work = frame.new_folder()
-    kit.put(f"{work}/nothing.c", "int main(void) { return 0; }\n")
+    kit.write_file(f"{work}/nothing.c", "int main(void) { return 0; }\n")
     if kit.run([compiler, *SANITIZE, "nothing.c", "-o", "nothing"], cwd=work).returncode:
         frame.skip(f"{compiler} has no sanitizers")
 
@@ -241,7 +241,7 @@ class Programs(OfLibrary):
     def test_example_in_arena(self) -> None:
         """The example with arenas requests nothing from malloc."""
         rows.like_clone(self.work)
-        kit.put(f"{self.work}/in_arena.c", IN_ARENA)
+        kit.write_file(f"{self.work}/in_arena.c", IN_ARENA)
         self.must(["cc", *STRICT, "-std=c99", "in_arena.c", ARENA, LIBRARY, "-o", "show"])
         rows.compare([f"{self.work}/show"])
 
@@ -263,7 +263,7 @@ class Headers(frame.Check):
     @frame.each(COMPILERS)
     def test_with_dwarf2(self, compiler: str) -> None:
         frame.need(compiler)
-        kit.put(f"{self.work}/beside.c", BESIDE)
+        kit.write_file(f"{self.work}/beside.c", BESIDE)
         more = ["-Wold-style-cast", "-Wzero-as-null-pointer-constant"] if "++" in compiler else []
         self.must([compiler, *STRICT, *more, *as_language(compiler), "-fsyntax-only", "beside.c"])
 
@@ -352,7 +352,7 @@ class Linked(frame.Check):
 
     def exported(self, *words: str) -> set[str]:
         """What a plug-in exports that is built with these words."""
-        kit.put(f"{self.work}/plugin.c", PLUGIN)
+        kit.write_file(f"{self.work}/plugin.c", PLUGIN)
         self.must(["cc", *STRICT, "-std=c99", "-shared", "-fPIC", "plugin.c", *words, "-o", "plugin.so"])
         return set(re.findall(r" [A-Z] (\w+)$", self.must(["nm", "-D", "--defined-only", "plugin.so"]), re.M))
 
@@ -360,7 +360,7 @@ class Linked(frame.Check):
     @frame.needs("ar", "nm")
     def test_plugin(self, name: str) -> None:
         """What a plug-in exports that links the whole library as an archive, as tools/install makes it."""
-        kit.put(f"{self.work}/plugin.map", "{ global: plugin_rows; local: *; };\n")
+        kit.write_file(f"{self.work}/plugin.map", "{ global: plugin_rows; local: *; };\n")
         self.must(["cc", "-O2", "-fPIC", "-c", HEAP, "-o", "heap.o"])
         self.must(["ar", "rc", "libdwarf_read.a", compiled(), "heap.o"])
         flag, hides = HIDING[name]
@@ -389,7 +389,7 @@ class Systems(frame.Check):
         frame.need(found)
         header = kit.text_of(f"{INCLUDE}/dwarf_read.h")
         calls = ", ".join(f"(function){it}" for it in re.findall(r"^uint32_t (dwarf_\w+)\(", header, re.M))
-        kit.put(f"{self.work}/whole.c", WHOLE_PROGRAM.format(calls=calls))
+        kit.write_file(f"{self.work}/whole.c", WHOLE_PROGRAM.format(calls=calls))
         clang = ["clang", f"--target={triple}", "-O2", "-ffreestanding", "-I", INCLUDE, "-c"]
         clang += [] if "windows" in triple else ["-fPIC"]
         link = [found, *LINK[linker], "whole.o", "library.o"]

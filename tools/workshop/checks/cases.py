@@ -148,8 +148,11 @@ def what_came(case: Case, came: tuple[bytes, bytes, int]) -> str:
     return "\n".join([f"{case.place}: {CRATE} {case.command}", "  prints", *(f"    {it}" for it in lines)])
 
 
+CHECKS = [Cases]
+
+
 def main(words: list[str]) -> int:
     if words not in ([], ["--built"]):
         return frame.usage(__doc__)
     Cases.is_built = bool(words)
-    return frame.check("cases", [Cases], section="cases")
+    return frame.check("cases", CHECKS, section="cases")

@@ -57,7 +57,7 @@ def by_compiler(check: frame.Check, root: Root, *words: str, is_shared: bool = T
 def by_cmake(check: frame.Check, source: str, target: str, find: str, *words: str) -> list[str]:
     """Builds the example over a target that CMake finds."""
     frame.need("cmake")
-    kit.put(f"{check.work}/CMakeLists.txt", CMAKE_LISTS.format(find=find, source=source))
+    kit.write_file(f"{check.work}/CMakeLists.txt", CMAKE_LISTS.format(find=find, source=source))
     check.must(["cmake", "-S", ".", "-B", "out", *words])
     check.must(["cmake", "--build", "out", "--target", f"show_{target}"])
     return [f"{check.work}/out/show_{target}"]

@@ -544,7 +544,7 @@ class Statuses(OfTool):
     def test_closed_pipe(self, name: str) -> None:
         """The tool and dwarf_list end as `cat` does if the reader of their output has enough of it, and say nothing."""
         section = f"{self.work}/piped"
-        kit.put(section, struct.pack("<IHBBQ", 12, 5, 8, 0, 1) * 10_000)
+        kit.write_file(section, struct.pack("<IHBBQ", 12, 5, 8, 0, 1) * 10_000)
         words: list[Word] = ["cat", section]
         if name == "dwarf_elf":
             words = [*TOOL, file_of("gcc-many/many.o"), "str"]
@@ -605,9 +605,9 @@ class Memory(OfTool):
     def packed(self, sections: dict[str, bytes]) -> str:
         """An object with these bytes in its debug sections, compressed."""
         for name, data in sections.items():
-            kit.put(f"{self.work}/{name}", data)
+            kit.write_file(f"{self.work}/{name}", data)
         source = "".join(f'.section .debug_{it},"",@progbits\n.incbin "{it}"\n' for it in sections)
-        kit.put(f"{self.work}/many.s", source)
+        kit.write_file(f"{self.work}/many.s", source)
         self.must(["as", "many.s", "-o", "many.o"])
         self.must(["objcopy", "--compress-debug-sections=zlib-gabi", "many.o", "packed"])
         return f"{self.work}/packed"
@@ -671,7 +671,7 @@ def registry(folder: str) -> str:
             if it.name != ".cargo-checksum.json":
                 os.makedirs(f"{folder}/{crate.name}", exist_ok=True)
                 os.symlink(it, f"{folder}/{crate.name}/{it.name}")
-        kit.put(f"{folder}/{crate.name}/.cargo-checksum.json", f'{{"package":"{checksum}","files":{{}}}}')
+        kit.write_file(f"{folder}/{crate.name}/.cargo-checksum.json", f'{{"package":"{checksum}","files":{{}}}}')
     return folder
 
 
@@ -708,11 +708,13 @@ class Crate(OfPackage):
         self.must([OFFLINE, "clippy", "--quiet", "--all-targets", "--", "-D", "warnings"])
 
 
+CHECKS = [Files, Listings, Statuses, Zstd, Memory, Crate]
+
+
 def main(words: list[str]) -> int:
     if any(it.startswith("-") for it in words):
         return frame.usage(__doc__)
     if words and all(map(os.path.isfile, words)):
         Given.paths = words
         return frame.check("compare-elf", [Given])
-    classes = [Files, Listings, Statuses, Zstd, Memory, Crate]
-    return frame.check("compare-elf", classes, words, section="compare-elf")
+    return frame.check("compare-elf", CHECKS, words, section="compare-elf")

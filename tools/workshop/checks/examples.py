@@ -31,7 +31,7 @@ a wrong command line.
 from workshop import frame
 from workshop.checks import c, consumers, page, rows, rust
 
-CLASSES = [rows.Rows, c.Versions, c.Headers, c.Programs, c.Launcher, c.Linked, c.Systems, page, rust, consumers]
+CHECKS = [rows.Rows, c.Versions, c.Headers, c.Programs, c.Launcher, c.Linked, c.Systems, page, rust, consumers]
 
 
 def main(words: list[str]) -> int:
@@ -39,4 +39,4 @@ def main(words: list[str]) -> int:
         return frame.check("examples", c.SHORT)
     if any(it.startswith("-") for it in words):
         return frame.usage(__doc__)
-    return frame.check("examples", CLASSES, words, section="examples")
+    return frame.check("examples", CHECKS, words, section="examples")

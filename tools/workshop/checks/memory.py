@@ -162,7 +162,10 @@ class Memory(frame.Check):
         try_requests(lambda number: ran([example(), "abbrev", "0"], number, SHOWN[what]))
 
 
+CHECKS = [Memory]
+
+
 def main(words: list[str]) -> int:
     if words:
         return frame.usage(__doc__)
-    return frame.check("fail-alloc", [Memory], section="fail-alloc")
+    return frame.check("fail-alloc", CHECKS, section="fail-alloc")

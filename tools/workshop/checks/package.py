@@ -114,9 +114,9 @@ class Package:
         output("strip", "--strip-unneeded", *notes, *(f"{self.root}/{it}" for it in binaries))
         output("strip", "--strip-debug", *notes, f"{self.root}/{LIBDIR}/libdwarf_read.a")
         self.put_documentation()
-        kit.put(f"{self.work}/changelog", self.changelog())
+        kit.write_file(f"{self.work}/changelog", self.changelog())
         control = kit.text_of(f"{DEBIAN}/control").replace("@SHARED@", self.of_shared)
-        kit.put(f"{self.work}/source/debian/control", control)
+        kit.write_file(f"{self.work}/source/debian/control", control)
         for it in self.packages:
             self.pack(it)
         self.pack_tar()
@@ -124,14 +124,14 @@ class Package:
 
     def put_documentation(self) -> None:
         """Puts all but PROVENANCE into share/doc, and compresses the manual pages."""
-        kit.put(f"{self.root}/{DOC}/C.md", self.page())
+        kit.write_file(f"{self.root}/{DOC}/C.md", self.page())
         for it in output("git", "ls-files", "examples", "tests").splitlines():
-            kit.put(f"{self.root}/{DOC}/{it}", kit.text_of(f"{kit.ROOT}/{it}"))
+            kit.write_file(f"{self.root}/{DOC}/{it}", kit.text_of(f"{kit.ROOT}/{it}"))
         # The licences are in the copyright.
         names = ("include/*.S", "include/*.c", "rust", ":!rust/LICENSE-*")
         for it in output("git", "ls-files", *names).splitlines():
-            kit.put(f"{self.root}/{SOURCES}/{it}", kit.text_of(f"{kit.ROOT}/{it}"))
-        kit.put(f"{self.root}/{DOC}/changelog", self.changelog())
+            kit.write_file(f"{self.root}/{SOURCES}/{it}", kit.text_of(f"{kit.ROOT}/{it}"))
+        kit.write_file(f"{self.root}/{DOC}/changelog", self.changelog())
         output("gzip", "-9n", f"{self.root}/{DOC}/changelog", *glob.glob(f"{self.root}/share/man/man1/*"))
 
     def page(self) -> str:
@@ -204,13 +204,13 @@ class Package:
                 made = f"{tree}/usr/{path.replace(DOC, f'share/doc/{package}')}"
                 os.makedirs(os.path.dirname(made), exist_ok=True)
                 shutil.copy2(it, made, follow_symlinks=False)
-        kit.put(f"{tree}/usr/share/doc/{package}/PROVENANCE", self.provenance(tree, f"{tree}/usr", package))
+        kit.write_file(f"{tree}/usr/share/doc/{package}/PROVENANCE", self.provenance(tree, f"{tree}/usr", package))
         sums = self.sums("md5sum", tree, f"{tree}/usr")
-        kit.put(f"{tree}/DEBIAN/md5sums", f"{sums}\n")
+        kit.write_file(f"{tree}/DEBIAN/md5sums", f"{sums}\n")
         if package == self.of_shared:
             name, minor = self.shared.split(".so.")
-            kit.put(f"{tree}/DEBIAN/shlibs", f"{name} {minor} {package} (>= {self.version})\n")
-            kit.put(f"{tree}/DEBIAN/triggers", "activate-noawait ldconfig\n")
+            kit.write_file(f"{tree}/DEBIAN/shlibs", f"{name} {minor} {package} (>= {self.version})\n")
+            kit.write_file(f"{tree}/DEBIAN/triggers", "activate-noawait ldconfig\n")
         self.control(package, tree)
         words = ["--root-owner-group", "--build", tree, f"{self.work}/{package}_{self.version}_amd64.deb"]
         output("dpkg-deb", *words, env=self.environment)
@@ -222,7 +222,7 @@ class Package:
         # Warns that the programs are outside of the folder where it runs.
         words = ["dpkg-shlibdeps", "-O", *binaries]
         needed = output(*words, cwd=f"{self.work}/source", stderr=subprocess.DEVNULL) if binaries else ""
-        kit.put(f"{self.work}/variables", f"{needed}\n")
+        kit.write_file(f"{self.work}/variables", f"{needed}\n")
         words = [f"-p{package}", f"-c{self.work}/source/debian/control", f"-l{self.work}/changelog"]
         words += [f"-T{self.work}/variables", f"-P{tree}", f"-f{self.work}/files"]
         output("dpkg-gencontrol", *words, env=self.environment)
@@ -231,22 +231,22 @@ class Package:
         """Makes the tar, of the same files. pkg-config finds them by where its own file is."""
         path = f"{self.root}/{LIBDIR}/pkgconfig/dwarf_read.pc"
         up = os.path.relpath(self.root, os.path.dirname(path))
-        kit.put(path, kit.text_of(path).replace("prefix=/usr\n", f"prefix=${{pcfiledir}}/{up}\n", 1))
+        kit.write_file(path, kit.text_of(path).replace("prefix=/usr\n", f"prefix=${{pcfiledir}}/{up}\n", 1))
         said = kit.text_of(f"{DEBIAN}/README").format(version=self.version, libdir=LIBDIR)
-        kit.put(f"{self.root}/README", said)
-        kit.put(f"{self.root}/{DOC}/PROVENANCE", self.provenance(self.root, self.root))
+        kit.write_file(f"{self.root}/README", said)
+        kit.write_file(f"{self.root}/{DOC}/PROVENANCE", self.provenance(self.root, self.root))
         self.tar_up(self.tar, self.tree, "usr", "--transform", f"s,^usr,{self.folder},")
 
     def pack_vendor(self) -> None:
         """Makes the tar for programs that contain the library."""
         folder = self.vendor.removesuffix(".tar.gz")
         for it in output("git", "ls-files", "*.h", "*.c", cwd=f"{kit.ROOT}/include").splitlines():
-            kit.put(f"{self.work}/{folder}/{it}", kit.text_of(f"{kit.ROOT}/include/{it}"))
+            kit.write_file(f"{self.work}/{folder}/{it}", kit.text_of(f"{kit.ROOT}/include/{it}"))
         for it in ("LICENSE-APACHE", "LICENSE-MIT"):
-            kit.put(f"{self.work}/{folder}/{it}", kit.text_of(f"{kit.ROOT}/{it}"))
+            kit.write_file(f"{self.work}/{folder}/{it}", kit.text_of(f"{kit.ROOT}/{it}"))
         text = kit.text_of(f"{kit.ROOT}/include/dwarf_read.S").replace("-I include ", "").replace(" include/", " ")
         text = CODE.sub(lambda found: kit.text_of(f"{kit.ROOT}/include/{found[1]}"), text)
-        kit.put(f"{self.work}/{folder}/dwarf_read.S", text)
+        kit.write_file(f"{self.work}/{folder}/dwarf_read.S", text)
         self.tar_up(self.vendor, self.work, folder)
 
     def tar_up(self, name: str, above: str, folder: str, *words: str) -> None:
@@ -403,7 +403,7 @@ class Unpacked(frame.Check):
         for it in (minor - 1, minor + 1):
             find = consumers.FIND.format(version=f"{major}.{it}")
             text = consumers.CMAKE_LISTS.format(find=find, source=root(kind).source)
-            kit.put(f"{self.work}/{it}/CMakeLists.txt", text)
+            kit.write_file(f"{self.work}/{it}/CMakeLists.txt", text)
             words = ["cmake", "-S", ".", "-B", "out", f"-DCMAKE_PREFIX_PATH={unpacked(kind)}"]
             ran = kit.run(words, cwd=f"{self.work}/{it}")
             self.assertTrue(ran.returncode and "considered but" in ran.stdout, ran.stdout)
@@ -417,13 +417,16 @@ class Unpacked(frame.Check):
         rows.compare([f"{self.work}/a.out"])
 
 
+CHECKS = [Files, Unpacked]
+
+
 def main(words: list[str]) -> int:
     is_check = words[:1] == ["--check"]
     if not is_check and (len(words) > 1 or any(it.startswith("-") for it in words)):
         return frame.usage(__doc__)
     os.umask(0o022)
     if is_check:
-        return frame.check("package", [Files, Unpacked], words[1:], section="package")
+        return frame.check("package", CHECKS, words[1:], section="package")
     lacking = [it for it in NEEDED if not shutil.which(it)]
     if lacking:
         fail(f"there is no {lacking[0]}")

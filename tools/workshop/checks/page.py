@@ -130,7 +130,7 @@ class OfPage(frame.Check):
 
     def built_with_little_memory(self, limit: int, source: str) -> list[str]:
         """Builds a program whose source can have only small blocks of memory."""
-        kit.put(f"{self.work}/few.c", FEW)
+        kit.write_file(f"{self.work}/few.c", FEW)
         first = ["cc", "-std=c99", *PEDANTIC, f"-DLIMIT={limit}"]
         self.must([*first, "-c", source, "-Dmalloc=few", "-o", "few.o"])
         self.must([*first, "few.o", "few.c", HEAP, LIBRARY, "-o", "few"])
@@ -232,8 +232,8 @@ class Functions(OfPage):
         frame.need(compiler)
         _, *functions = re.findall(r"^```c\n(.*?)^```$", kit.text_of(PAGE), re.M | re.S)
         declared, called = [*FUNCTIONS.items()][number]
-        kit.put(f"{self.work}/function.c", functions[number])
-        kit.put(f"{self.work}/caller.c", CALLER.format(declared=declared, called=called))
+        kit.write_file(f"{self.work}/function.c", functions[number])
+        kit.write_file(f"{self.work}/caller.c", CALLER.format(declared=declared, called=called))
         program = by_valgrind(self.built(compiler, *PEDANTIC, "function.c", "caller.c"))
         for name, (text, status) in rows_of_function(number).items():
             self.assertEqual(frame.output(program, SECTIONS[name]), (text.encode(), status), name)

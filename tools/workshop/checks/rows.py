@@ -92,7 +92,7 @@ def compare(program: Sequence[str], without: str = "", **how: Any) -> None:
 def put_sections(folder: str) -> list[str]:
     """Writes the sections to files of a folder, and returns their names."""
     for name, section in SECTIONS.items():
-        kit.put(f"{folder}/{name}", section)
+        kit.write_file(f"{folder}/{name}", section)
     return [*SECTIONS]
 
 

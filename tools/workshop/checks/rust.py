@@ -155,9 +155,9 @@ class Package(frame.Check):
 def dependent() -> str:
     """Builds a program and a shared library that depend on the crate, and returns their folder."""
     folder = frame.new_folder()
-    kit.put(f"{folder}/Cargo.toml", DEPENDENT.format(crate=CRATE))
-    kit.put(f"{folder}/src/main.rs", kit.text_of(f"{CRATE}/examples/dwarf_show.rs"))
-    kit.put(f"{folder}/src/lib.rs", SHARED)
+    kit.write_file(f"{folder}/Cargo.toml", DEPENDENT.format(crate=CRATE))
+    kit.write_file(f"{folder}/src/main.rs", kit.text_of(f"{CRATE}/examples/dwarf_show.rs"))
+    kit.write_file(f"{folder}/src/lib.rs", SHARED)
     cargo("build --quiet", folder)
     return f"{frame.room()}/target/debug"
 

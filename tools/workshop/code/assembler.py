@@ -28,7 +28,7 @@ import re
 from typing import Optional
 
 from workshop import frame, kit
-from workshop.code import products
+from workshop.code import products, proving
 
 # What the code of each crate is.
 WHAT = {"dwarf_read_c": "functions of dwarf_read.h", "dwarf_list": "program dwarf_list"}
@@ -76,13 +76,13 @@ def make(crate: str, of_sources: str) -> bool:
                 say(f"{it} isn't proved:\n{ran.stdout[-2000:]}")
                 return False
         return make_over(crate, kit.ROOT, of_sources)
-    with products.libraries(crate, say) as copy:
+    with proving.libraries(crate, say) as copy:
         return bool(copy) and make_over(crate, str(copy), of_sources)
 
 
 def make_over(crate: str, root: str, of_sources: str) -> bool:
     """Makes the code that isn't kept, over the libraries of a checkout or a copy. Returns whether all went well."""
-    calls = [(products.put_assembler, crate, it, root, of_sources, say) for it in products.lacking(crate, of_sources)]
+    calls = [(proving.put_assembler, crate, it, root, of_sources, say) for it in products.lacking(crate, of_sources)]
     return all([*kit.side_by_side(len(products.TARGETS), calls)])
 
 
@@ -126,7 +126,7 @@ def write(crate: str, of_sources: str) -> bool:
         return False
     for it in products.CODE[crate]:
         text = head(crate, it, of_sources, kit.version()) + str(made_before(it, of_sources))
-        kit.put(f"{products.FILES[crate]}/{it}.s", text)
+        kit.write_file(f"{products.FILES[crate]}/{it}.s", text)
     return True
 
 
@@ -150,6 +150,9 @@ class Files(frame.Check):
         judge(crate, name, of_sources)
 
 
+CHECKS = [Files]
+
+
 def main(words: list[str]) -> int:
     if words not in ([], ["--check"], ["--sources"], *(["--sources", it] for it in products.FILES)):
         return frame.usage(__doc__)
@@ -164,4 +167,4 @@ def main(words: list[str]) -> int:
             with products.in_turn(it):
                 if not write(it, of_sources):
                     return 1
-    return frame.check("assembler", [Files], section="assembler")
+    return frame.check("assembler", CHECKS, section="assembler")

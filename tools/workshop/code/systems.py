@@ -143,7 +143,7 @@ def code_for(code: str, name: str) -> str:
 
 def compiled(clang: str, words: list[str], module: str, path: str) -> str:
     """What clang makes of a module's text. What goes wrong is raised."""
-    kit.put(f"{path}.ll", module)
+    kit.write_file(f"{path}.ll", module)
     said = [*words, "-S", "-fno-addrsig", "-fno-verbose-asm", "-o", f"{path}.s", f"{path}.ll"]
     ran = kit.run([clang, *said])
     if ran.returncode:

@@ -14,7 +14,7 @@ import tempfile
 from collections.abc import Sequence
 
 from workshop import frame, kit
-from workshop.compare.common import CRATE, DEBIAN, OUT, PACKAGE, Failed, Missing, files_by_default, must, need, put
+from workshop.compare.common import CRATE, DEBIAN, OUT, PACKAGE, Failed, Missing, copy_if_new, files_by_default, must, need
 from workshop.compare.common import put_library, put_sections, run
 
 MANIFEST = """[package]
@@ -132,7 +132,7 @@ def write(text: str, path: str) -> None:
     with tempfile.NamedTemporaryFile("w", encoding="utf-8") as file:
         file.write(text)
         file.flush()
-        put(file.name, path)
+        copy_if_new(file.name, path)
 
 
 def copy(gimli: str, folder: str, is_patched: bool) -> None:
@@ -145,21 +145,21 @@ def copy(gimli: str, folder: str, is_patched: bool) -> None:
             if is_patched and part == "src" and it.endswith(".rs"):
                 write(patched(path[len("src/") :], kit.text_of(it)), f"{folder}/{path}")
             else:
-                put(it, f"{folder}/{path}")
+                copy_if_new(it, f"{folder}/{path}")
     text = MANIFEST.replace("FALLIBLE", source("fallible-iterator")).replace("STABLE", source("stable_deref_trait"))
     write(text, f"{folder}/Cargo.toml")
-    put(f"{PACKAGE}/client/dump.rs", f"{folder}/examples/dump.rs")
+    copy_if_new(f"{PACKAGE}/client/dump.rs", f"{folder}/examples/dump.rs")
     # The documentation of gimli has examples that include its page.
-    put(f"{gimli}/README.md", f"{folder}/README.md")
+    copy_if_new(f"{gimli}/README.md", f"{folder}/README.md")
     if is_patched:
         write(BUILD.replace("FOLDER", f"{OUT}/lib"), f"{folder}/build.rs")
         for path in (f"{PACKAGE}/client/calls.rs", f"{PACKAGE}/src/room.rs"):
-            put(path, f"{folder}/src/{os.path.basename(path)}")
+            copy_if_new(path, f"{folder}/src/{os.path.basename(path)}")
         for it in ("heap", "proved", "sys"):
             # The crate's own tests aren't gimli's.
             write(kit.text_of(f"{CRATE}/src/{it}.rs").partition("\n#[cfg(test)]\n")[0], f"{folder}/src/{it}.rs")
         for path in kit.files_below(f"{CRATE}/proved"):
-            put(path, f"{folder}/proved/{os.path.basename(path)}")
+            copy_if_new(path, f"{folder}/proved/{os.path.basename(path)}")
 
 
 def tests(folder: str, planted: str = "", kinds: Sequence[str] = ()) -> list[tuple[int, int]]:

@@ -9,7 +9,7 @@ from collections.abc import Sequence
 from typing import Any, Optional
 
 from workshop import kit
-from workshop.code import products
+from workshop.code import products, proving
 
 PACKAGE = f"{kit.ROOT}/compare"
 CRATE = f"{kit.ROOT}/rust"
@@ -73,7 +73,7 @@ def check_files(paths: Sequence[str]) -> None:
             raise Failed(f"{path} is no ELF file")
 
 
-def put(source: str, target: str) -> None:
+def copy_if_new(source: str, target: str) -> None:
     """Copies a file, unless it is there already: its date decides what cargo builds again."""
     if not os.path.isfile(target) or not filecmp.cmp(source, target, shallow=False):
         os.makedirs(os.path.dirname(target), exist_ok=True)
@@ -91,14 +91,14 @@ def put_library(folder: str, flags: Sequence[str] = ()) -> None:
         if not os.path.isfile(code):
             if not (shutil.which("rt") and shutil.which("rattle")):
                 raise Missing("there is no rt: CONTRIBUTING.md names the kit that has it")
-            with products.libraries(crate, say) as copy:
-                if not copy or not products.put_assembler(crate, target, copy, of_sources, say):
+            with proving.libraries(crate, say) as copy:
+                if not copy or not proving.put_assembler(crate, target, copy, of_sources, say):
                     raise Failed(f"the code of {crate} isn't made")
     with tempfile.TemporaryDirectory(prefix="compare-") as work:
         made, library = f"{work}/{crate}.o", f"{work}/lib{crate}.a"
         must([os.environ.get("CC", "cc"), "-c", *flags, "-x", "assembler", code, "-o", made], f"{code} isn't assembled")
         must(["ar", "rcsD", library, made], f"the library of {crate} isn't made")
-        put(library, f"{folder}/lib{crate}.a")
+        copy_if_new(library, f"{folder}/lib{crate}.a")
 
 
 def copy_crate() -> None:
@@ -106,20 +106,20 @@ def copy_crate() -> None:
     for part in ("", "src", "proved", "examples"):
         for name in os.listdir(f"{CRATE}/{part}"):
             if name.endswith((".rs", ".toml", ".s")):
-                put(f"{CRATE}/{part}/{name}", f"{OUT}/rust/{part}/{name}")
+                copy_if_new(f"{CRATE}/{part}/{name}", f"{OUT}/rust/{part}/{name}")
 
 
 def copy_package(folder: str, is_locked: bool) -> None:
     """Copies the package to where its lock file and what cargo builds may be. A lock file that is there already stays,
     since cargo has added gimli's checksum to it, unless the package's own is newer."""
     for name in ("Cargo.toml", "build.rs"):
-        put(f"{PACKAGE}/{name}", f"{folder}/{name}")
+        copy_if_new(f"{PACKAGE}/{name}", f"{folder}/{name}")
     own = f"{PACKAGE}/Cargo.lock"
     there = f"{folder}/Cargo.lock"
     if is_locked and (not os.path.isfile(there) or os.path.getmtime(there) < os.path.getmtime(own)):
-        put(own, there)
+        copy_if_new(own, there)
     for it in kit.files_below(f"{PACKAGE}/src"):
-        put(it, f"{folder}/{os.path.relpath(it, PACKAGE)}")
+        copy_if_new(it, f"{folder}/{os.path.relpath(it, PACKAGE)}")
 
 
 def why_not_fetched(folder: str) -> Optional[str]:

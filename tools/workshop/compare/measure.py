@@ -95,7 +95,7 @@ def own_files(program: str, folder: str) -> list[str]:
     need("g++", "g++")
     paths = [f"{folder}/a Rust program", f"{folder}/a C++ object"]
     shutil.copy(program, paths[0])
-    kit.put(f"{folder}/source", '#include <regex>\nstd::regex made("a*");\n')
+    kit.write_file(f"{folder}/source", '#include <regex>\nstd::regex made("a*");\n')
     with open(f"{folder}/source", encoding="utf-8") as source:
         must(["g++", "-g", "-c", "-x", "c++", "-", "-o", paths[1]], "the C++ object isn't made", stdin=source)
     return paths

@@ -49,6 +49,6 @@ def tell(given: argparse.Namespace, name: str, what_ran: str, printed: str) -> i
             raise Failed(f"nothing is written, since the page compares with {GIMLI}0, and without a FILE")
         sections = dict(SECTION.findall(kit.text_of(FILE)))
         sections[f"{name} --elf" if given.elf else name] = f"\n{time.strftime('%Y-%m-%d')}; {what_ran}\n\n{printed}\n"
-        kit.put(FILE, TOP + "".join(f"\n## `tools/compare {it}`\n{sections[it].rstrip()}\n" for it in sorted(sections)))
-        kit.put(PAGE, put_rows(kit.text_of(PAGE), rows_of(printed)))
+        kit.write_file(FILE, TOP + "".join(f"\n## `tools/compare {it}`\n{sections[it].rstrip()}\n" for it in sorted(sections)))
+        kit.write_file(PAGE, put_rows(kit.text_of(PAGE), rows_of(printed)))
     return 0

@@ -554,9 +554,12 @@ class Pages(frame.Check):
         self.assertEqual([*uncited([*citing()], map(page_of, QUOTED))], [])
 
 
+CHECKS = [Pages]
+
+
 def main(words: list[str]) -> int:
     if words == ["--check"]:
-        return frame.check("api", [Pages], section="api")
+        return frame.check("api", CHECKS, section="api")
     if len(words) == 1 and words[0] in CRATES:
         print("\n".join(contracts(words[0])))
         return 0
@@ -567,5 +570,5 @@ def main(words: list[str]) -> int:
         return 1
     for it in QUOTED:
         path = f"{kit.ROOT}/crates/{it}/CALLING.md"
-        kit.put(path, text_of(it, kit.text_of(path)))
+        kit.write_file(path, text_of(it, kit.text_of(path)))
     return 0

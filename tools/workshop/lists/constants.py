@@ -266,9 +266,12 @@ class Lists(frame.Check):
         self.assertEqual(unpaired(Constants()), [])
 
 
+CHECKS = [Lists]
+
+
 def main(words: list[str]) -> int:
     if words == ["--check"]:
-        return frame.check("constants", [Lists], section="constants")
+        return frame.check("constants", CHECKS, section="constants")
     if words:
         return frame.usage(__doc__)
     written = stale(Constants())

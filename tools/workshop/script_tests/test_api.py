@@ -102,7 +102,7 @@ class Pages(unittest.TestCase):
     def test_page_with_a_wrong_name_is_not_written(self) -> None:
         self.put("QUOTED", {**api.QUOTED, "dwarf_read_core": "DebugStr::get"})
         said = io.StringIO()
-        with mock.patch.object(kit, "put") as put, contextlib.redirect_stderr(said):
+        with mock.patch.object(kit, "write_file") as put, contextlib.redirect_stderr(said):
             self.assertEqual(api.main([]), 1)
         put.assert_not_called()
         wanted = "QUOTED in tools/api has DebugStr::get, which is no public call of dwarf_read_core\n"

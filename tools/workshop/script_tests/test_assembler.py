@@ -23,9 +23,9 @@ class Judging(unittest.TestCase):
         """The state of a file with this text where this kit makes this code."""
         with tempfile.TemporaryDirectory() as folder:
             kept = f"{folder}/kept"
-            kit.put(kept, made)
+            kit.write_file(kept, made)
             if text:
-                kit.put(f"{folder}/{NAME}.s", text)
+                kit.write_file(f"{folder}/{NAME}.s", text)
             with mock.patch.multiple(products, FILES={CRATE: folder}, place_of_copy=lambda *_: kept):
                 with mock.patch.object(kit, "version", lambda: version):
                     return state_of(lambda: assembler.judge(CRATE, NAME, SOURCES))

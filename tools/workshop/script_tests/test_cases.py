@@ -100,8 +100,8 @@ class Judging(unittest.TestCase):
         """A case that isn't met fails by its name, and each file does if there is no program."""
         with tempfile.TemporaryDirectory() as folder:
             for name in cases.FILES:
-                kit.put(f"{folder}/{name}.md", PAGE)
-            kit.put(f"{folder}/program", '#!/bin/sh\n[ "$1 $2" = "str 0" ] || exit 2\necho a; echo and more\n')
+                kit.write_file(f"{folder}/{name}.md", PAGE)
+            kit.write_file(f"{folder}/program", '#!/bin/sh\n[ "$1 $2" = "str 0" ] || exit 2\necho a; echo and more\n')
             os.chmod(f"{folder}/program", 0o755)
             wanted = {"str 0 < 61 00": frame.PASSED, "str 9 < 61": frame.FAILED, "uleb 0": frame.FAILED}
             with mock.patch.multiple(cases, FOLDER=folder, program=lambda _: f"{folder}/program"):

@@ -48,8 +48,8 @@ class Constants(unittest.TestCase):
         text = kit.text_of(published.HEADER)
         for more, status in (("", 0), ("int DW_TAG_c;\n", 1)):
             with tempfile.TemporaryDirectory() as folder, contextlib.redirect_stdout(io.StringIO()) as said:
-                kit.put(f"{folder}/header", text + more)
-                kit.put(f"{folder}/list", "DW_TAG_array_type = 0x01\n")
+                kit.write_file(f"{folder}/header", text + more)
+                kit.write_file(f"{folder}/list", "DW_TAG_array_type = 0x01\n")
                 tables = [("a list", f"{folder}/list", "", published.of_enumerators)]
                 with mock.patch.multiple(published, HEADER=f"{folder}/header", TABLES=tables, say=print):
                     self.assertEqual(published.constants(argparse.Namespace()), status, said.getvalue())

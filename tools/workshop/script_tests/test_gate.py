@@ -12,7 +12,7 @@ from typing import Optional
 from unittest import mock
 
 from workshop import floor, gate, kit, tests, wrong_bodies
-from workshop.code import products
+from workshop.code import products, proving
 from workshop.frame import FAILED, PASSED, SKIPPED, State, States
 
 PROVED = "".join(f"rt: {it} proved\n" for it in kit.CRATES)
@@ -138,11 +138,11 @@ class Judging(unittest.TestCase):
         rows = [([], every, True), (every[:1], every, False), ([], every[1:], False), ([], [], False)]
         for before, after, is_built in rows:
             now = gate.Gate()
-            names = ("lacking", "put_assembler")
             with tempfile.TemporaryDirectory() as root, mock.patch.object(kit, "ROOT", root), mock.patch.multiple(
                 gate, judge_proofs=mock.DEFAULT, keep_programs=mock.DEFAULT
-            ), mock.patch.multiple(products, sums=str, code_of=str, **dict.fromkeys(names, mock.DEFAULT)) as made:
-                made["lacking"].return_value = ["a target"]
+            ), mock.patch.multiple(products, sums=str, code_of=str, lacking=lambda *_: ["a target"]), mock.patch.object(
+                proving, "put_assembler"
+            ) as made:
                 for it in before:
                     os.makedirs(f"{root}/crates/{it}/out/rlib")
 
@@ -153,7 +153,7 @@ class Judging(unittest.TestCase):
 
                 with mock.patch.object(kit, "run", prove), contextlib.redirect_stdout(io.StringIO()):
                     self.assertTrue(gate.prove(now))
-            built = [it.args[:2] for it in made["put_assembler"].call_args_list]
+            built = [it.args[:2] for it in made.call_args_list]
             wanted = [(crate, "a target") for crate in products.CODE] if is_built else []
             self.assertEqual((built, now.states), (wanted, {}), (before, after))
 

@@ -23,14 +23,14 @@ class Starting(unittest.TestCase):
         with tempfile.TemporaryDirectory() as root:
             shutil.copy(LAUNCHER, root)
             for it in ("include/dwarf_read_heap.h", "include/dwarf_read_heap.c", "program/proved/any.s"):
-                kit.put(f"{root}/{it}", "")
-            kit.put(f"{root}/program/one.S", '.section .note.GNU-stack,"",@progbits\n')
+                kit.write_file(f"{root}/{it}", "")
+            kit.write_file(f"{root}/program/one.S", '.section .note.GNU-stack,"",@progbits\n')
             self.write(root, 1)
             yield root
 
     def write(self, root: str, number: int) -> None:
         text = f'#include <stdio.h>\nint main(int count, char **words) {{ return printf("{number} %s", words[1]) < 0; }}\n'
-        kit.put(f"{root}/program/one.c", text)
+        kit.write_file(f"{root}/program/one.c", text)
 
     def said(self, root: str, **environment: str) -> tuple[str, str, int]:
         """What the script prints, and its status."""
@@ -56,7 +56,7 @@ class Starting(unittest.TestCase):
         for system, status in rows.items():
             name, _, processor = system.partition(" on ")
             with self.clone() as root:
-                kit.put(f"{root}/bin/uname", f"#!/bin/sh\n[ $1 = -s ] && echo {name} || echo {processor}\n")
+                kit.write_file(f"{root}/bin/uname", f"#!/bin/sh\n[ $1 = -s ] && echo {name} || echo {processor}\n")
                 os.chmod(f"{root}/bin/uname", 0o755)
                 said = f"dwarf_list: its code is for Linux on x86-64, AArch64 and RISC-V, and this is {system}\n"
                 wanted = ("", said, 3) if status else ("1 uleb", "", 0)
@@ -65,14 +65,14 @@ class Starting(unittest.TestCase):
     def test_cache(self) -> None:
         """If program/out can't be made, the program is in the user's cache, under a checksum of what it is made of."""
         with self.clone() as root:
-            kit.put(f"{root}/program/out", "a file")
+            kit.write_file(f"{root}/program/out", "a file")
             self.assertEqual(self.said(root), ("1 uleb", "", 0))
             self.assertEqual(self.said(root, CC="no-compiler"), ("1 uleb", "", 0))
             self.write(root, 2)
             self.assertEqual(self.said(root), ("2 uleb", "", 0))
             kept = os.listdir(f"{root}/user/.cache/dwarf_read_core")
             self.assertEqual(sorted(it.partition("-")[0] for it in kept), [NAME, NAME])
-            kit.put(f"{root}/file", "")
+            kit.write_file(f"{root}/file", "")
             said = f"dwarf_list: neither {root}/program/out nor {root}/file/.cache/dwarf_read_core can be written\n"
             os.utime(f"{root}/program/one.c", (2**31, 2**31))
             self.assertEqual(self.said(root, HOME=f"{root}/file"), ("", said, 3))

@@ -8,7 +8,7 @@ from types import SimpleNamespace
 from unittest import mock
 
 from workshop import kit
-from workshop.code import products
+from workshop.code import products, proving
 
 
 class Keeping(unittest.TestCase):
@@ -19,9 +19,9 @@ class Keeping(unittest.TestCase):
         with tempfile.TemporaryDirectory() as folder, mock.patch.dict(os.environ, XDG_CACHE_HOME=f"{folder}/cache"):
             made = f"{folder}/made"
             place = f"{folder}/out/program"
-            kit.put(made, "the program")
+            kit.write_file(made, "the program")
             self.assertIsNone(products.find(place, crate))
-            self.assertEqual(products.put(made, place, products.sums(crate)), place)
+            self.assertEqual(products.keep(made, place, products.sums(crate)), place)
             os.remove(place)
             self.assertEqual(products.find(place, crate), place)
             self.assertEqual(kit.text_of(place), "the program")
@@ -74,8 +74,8 @@ class Libraries(unittest.TestCase):
             yield None
 
         rt = SimpleNamespace(Kept=Kept, Crate=crate_of)
-        with mock.patch.object(kit, "load_rt", return_value=rt), mock.patch.object(products, "proved", proved):
-            with products.libraries("dwarf_read_c", lambda text: None) as copy:
+        with mock.patch.object(kit, "load_rt", return_value=rt), mock.patch.object(proving, "proved", proved):
+            with proving.libraries("dwarf_read_c", lambda text: None) as copy:
                 self.assertEqual(copy is None, "rt ci" in done)
         return done
 
