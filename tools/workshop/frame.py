@@ -296,8 +296,9 @@ def check(
         # A module may be left out.
         tests = [it for it in tests if is_chosen(name_of(it), words)]
     states: States = {}
-    calls = [(made, it) for it in tests]
-    for name, found, seconds in kit.side_by_side(lanes or kit.lanes(LANE_BYTES), calls):
+    at_once = kit.side_by_side(lanes or kit.lanes(LANE_BYTES), [(made, it) for it in tests])
+    # One after another, no check sees another thread: those of scripts take what is printed.
+    for name, found, seconds in map(made, tests) if lanes == 1 else at_once:
         tell(command, name, found, seconds)
         states.update(found)
     differences = floor.differences(section, counts_of(states)) if section and not words else []

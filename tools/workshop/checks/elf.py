@@ -6,7 +6,7 @@
 
 The sources are in C, C++ and Rust, in DWARF 2 to 5, in both formats, plain, compressed, split, packed, linked, and
 linked to one relocatable file, for ten machines. The tool is built for that without a network, and its package's tests
-are run, which have malformed files: by the cargo that is found first, and by Debian's. Archives and stripped files are
+are run, which have malformed files, by Debian's cargo. Archives and stripped files are
 compared with their members and whole files, and the strings of string offsets with all strings. At the end are files
 with units of two versions, and those that could take much memory.
 
@@ -590,7 +590,8 @@ class Zstd(OfPackage):
         if not any(REGISTRY.glob("zstd-*")):
             frame.skip("there is no crate zstd; `apt-get install librust-zstd-dev` installs it on Debian")
         own = {**os.environ, **DEBIAN, "CARGO_TARGET_DIR": WITH_ZSTD}
-        self.must([OFFLINE, "test", "--quiet", "--features", "zstd"], env=own)
+        # Only these tests differ by the feature.
+        self.must([OFFLINE, "test", "--quiet", "--features", "zstd", "compressed"], env=own)
         self.must([OFFLINE, "build", "--quiet", "--release", "--features", "zstd"], env=own)
         for command in self.COMMANDS:
             words: list[Word] = [f"{WITH_ZSTD}/release/dwarf_elf", self.packed(), command]
@@ -676,10 +677,8 @@ def registry(folder: str) -> str:
 
 
 class Crate(OfPackage):
-    """The tool's package: its tests, which check for overflow, its layout, and that Debian's cargo builds it, too."""
-
-    def test_tests(self) -> None:
-        self.must([OFFLINE, "test", "--quiet"])
+    """The tool's package: its layout, and that Debian's cargo builds it, too. `tools/tests` runs its tests by the cargo
+    that is found first."""
 
     @frame.needs(DEBIAN["CARGO"], DEBIAN["RUSTC"])
     def test_by_debian(self) -> None:

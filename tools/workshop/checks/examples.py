@@ -15,14 +15,15 @@ write with what dwarf_list writes of the same sections.
 - A program without a C library is linked. The functions that the library then lacks are those that docs/C.md names.
 - Tables are loaded into arenas of all sizes, and in a signal handler, on AArch64 too.
 - The stack is walked from within the library, by its unwind tables, on AArch64 too.
-- examples/c/dwarf_show.c and the tests of tests/c are compiled with warnings as errors, and run on worked bytes, with
-  bad input, with pages without access next to each buffer, with each allocation failing, by ASan and UBSan, and under
-  valgrind. For AArch64 and RISC-V they are run by qemu, and so is dwarf_list, which has to print the worked cases; for
-  Windows they are run by wine. For each other system the library is assembled, and linked with the same names in C.
-- The crate for Rust is tested, packaged, and used by a program. What is packaged is unpacked in another place, where no
-  C compiler works, and is tested there by this Rust and by Debian's. Its structs are compared with the header.
+- examples/c/dwarf_show.c and the tests of tests/c are compiled with warnings as errors by each compiler. The example
+  is run by each, and the tests by cc: on worked bytes, with bad input, with pages without access next to each buffer,
+  with each allocation failing, by ASan and UBSan, and under valgrind. For AArch64 and RISC-V both are run by qemu, and
+  so is dwarf_list, which has to print the worked cases; for Windows they are run by wine. For each other system the
+  library is assembled, and linked with the same names in C.
+- The crate for Rust is packaged, and used by a program. What is packaged is unpacked in another place, where no C
+  compiler works; it is built there by this Rust, and tested by Debian's. `tools/tests` runs the tests of the clone.
 - A project that CMake builds takes the library from this clone, and CMake installs it.
-- ./dwarf_list is run from another folder. Its help has a line for each command.
+- ./dwarf_list is run from another folder.
 
 A line is printed for each check. A compiler or a tool that the machine lacks is named and counted as skipped. The
 last line is `N passed, M failed, K skipped`, and the exit status is 0 if nothing failed, 1 if a check did, and 2 for

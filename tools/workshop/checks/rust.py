@@ -1,4 +1,4 @@
-"""Checks of the crate for Rust: its tests, how it is written and published, and programs over it."""
+"""Checks of the crate for Rust: how it is written and published, and programs over it. `tools/tests` runs its tests."""
 import os
 import re
 import shlex
@@ -91,9 +91,6 @@ class Crate(frame.Check):
         self.assertTrue(wanted)
         self.assertEqual(self.must([example("dwarf_units"), "info", "abbrevs"]), wanted)
 
-    def test_tests(self) -> None:
-        cargo("test")
-
     def test_without_std(self) -> None:
         cargo("check --all-targets --no-default-features")
 
@@ -128,9 +125,6 @@ class Package(frame.Check):
         tracked = set(frame.must(["git", "ls-files"], cwd=CRATE).splitlines())
         self.assertTrue(tracked)
         self.assertEqual(set(said.splitlines()) - {"Cargo.toml.orig", ".cargo_vcs_info.json"}, tracked - UNPUBLISHED)
-
-    def test_tests(self) -> None:
-        cargo("test", package(), CC="false")
 
     @frame.each(("lto", "panic"))
     def test_profile(self, name: str) -> None:
