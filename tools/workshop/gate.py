@@ -42,6 +42,7 @@ RAN = re.compile(r"^test (\S+) \.\.\. ok$", re.M)
 FIRST = {
     "gate": ["tools/gate", "--layout"],
     "constants": ["tools/constants", "--check"],
+    "published": ["tools/compare", "constants"],
     "api": ["tools/api", "--check"],
     "tests": ["tools/tests"],
 }

@@ -62,9 +62,8 @@ as a debugger does, by gimli and by the crate for Rust, in one thread and in fou
 time and of page faults. The section is that of the C library's debug file, or of FILE, eight times over.
 
 `constants` compares the named constants of dwarf_constants.h with those of gimli 0.27, elfutils' dwarf.h and LLVM's
-Dwarf.def. It prints each name with another value there, and for each table how many names are equal, differ, and are on
-one side alone, since each list has names of makers that the others leave out. A name of the header that it can't read
-fails it.
+Dwarf.def, as the gate does. A line of each table has how many names are equal, and how many are on one side alone, since
+each list has names of makers that the others leave out. A name of the header that it can't read fails it.
 
 With --write the table replaces that of the same command in compare/measured.md, and the rows that docs/BENCHMARKS.md
 shows of it. `tools/tests` fails if that page has other numbers.
@@ -171,7 +170,7 @@ COMMANDS: dict[Optional[str], tuple[Command, str]] = {
     "program": (program.program, "debian write"),
     "growth": (growth.growth, "debian"),
     "demand": (demand.demand, "debian write files"),
-    "constants": (published.constants, ""),
+    "constants": (published.compare, ""),
 }
 
 

@@ -1,11 +1,10 @@
 """Compares the named constants with the tables that gimli, elfutils and LLVM publish."""
 import argparse
 import glob
-import os
 import re
 
-from workshop import kit
-from workshop.compare.common import say
+from workshop import frame, kit
+from workshop.lists import constants
 
 HEADER = f"{kit.ROOT}/include/dwarf_constants.h"
 COMMENT = re.compile(r"/\*.*?\*/|//[^\n]*", re.S)
@@ -35,11 +34,12 @@ def of_macros(text: str) -> Rows:
     return [(f"{family}_{name}", value) for family, value, name in HANDLED.findall(COMMENT.sub("", text))]
 
 
-TABLES = (
-    ("gimli", "/usr/share/cargo/registry/gimli-*/src/constants.rs", "librust-gimli-dev", of_enumerators),
-    ("elfutils", "/usr/include/dwarf.h", "libdw-dev", of_enumerators),
-    ("LLVM", "/usr/include/llvm-*/llvm/BinaryFormat/Dwarf.def", "llvm-14-dev", of_macros),
-)
+# Each table: where it is, the package of Debian's that has it, and what reads it.
+TABLES = {
+    "gimli": ("/usr/share/cargo/registry/gimli-*/src/constants.rs", "librust-gimli-dev", of_enumerators),
+    "elfutils": ("/usr/include/dwarf.h", "libdw-dev", of_enumerators),
+    "LLVM": ("/usr/include/llvm-*/llvm/BinaryFormat/Dwarf.def", "llvm-14-dev", of_macros),
+}
 
 
 def number(text: str) -> int:
@@ -58,34 +58,43 @@ def values(rows: Rows) -> dict[str, set[int]]:
     return found
 
 
-def constants(_given: argparse.Namespace) -> int:
+def header() -> dict[str, set[int]]:
+    """The names of the header, with their values."""
+    return values(of_enumerators(kit.text_of(HEADER)))
+
+
+def table(producer: str) -> dict[str, set[int]]:
+    """The names of the newest table that is here, with their values. Without one the check is skipped."""
+    place, package, read = TABLES[producer]
+    files = sorted(glob.glob(place), key=lambda it: [int(part) for part in re.findall(r"\d+", it)])
+    if not files:
+        frame.skip(f"there is no {place}: `apt-get install {package}` installs it")
+    return values(read(kit.text_of(files[-1])))
+
+
+class Published(frame.Check):
+    """Each constant has the value that gimli, elfutils and LLVM publish, if they have its name."""
+
+    def test_names(self) -> None:
+        """All names of the header are read."""
+        text = COMMENT.sub("", kit.text_of(HEADER))
+        self.assertEqual(sorted(set(NAME.findall(text)) - header().keys()), [])
+        declared = {it for names in constants.Constants().modules.values() for it in names if it.startswith("DW_")}
+        self.assertEqual(sorted(declared ^ header().keys()), [])
+        known = {it for producer in TABLES if glob.glob(TABLES[producer][0]) for it in table(producer)}
+        self.note = f"{len(header())} constants, {len(header().keys() - known)} in no table that is here"
+
+    @frame.each(TABLES)
+    def test_values(self, producer: str) -> None:
+        there, here = table(producer), header()
+        both = here.keys() & there.keys()
+        other = {it: (sorted(here[it]), sorted(there[it])) for it in both if there[it] != here[it]}
+        self.assertEqual(other, {}, "values here, and there")
+        # Each has some four names of five. A table that isn't read has none.
+        self.assertGreater(len(both), len(here) * 3 // 4)
+        self.note = f"{len(both)} names equal, {len(here.keys() - both)} only here, {len(there.keys() - both)} only there"
+
+
+def compare(_given: argparse.Namespace) -> int:
     """Compares all tables that are here, and returns the exit status."""
-    text = kit.text_of(HEADER)
-    header = values(of_enumerators(text))
-    if unread := set(NAME.findall(COMMENT.sub("", text))) - header.keys():
-        say(f"{len(unread)} names of {os.path.basename(HEADER)} aren't read, such as {min(unread)}")
-        return 1
-    unseen = set(header)
-    compared = 0
-    differ = 0
-    for producer, place, package, read in TABLES:
-        # The newest, if there are several.
-        files = sorted(glob.glob(place), key=lambda it: [int(part) for part in re.findall(r"\d+", it)])
-        if not files:
-            say(f"{producer} is skipped, since there is no {place}: `apt-get install {package}` installs it")
-            continue
-        there = values(read(kit.text_of(files[-1])))
-        both = header.keys() & there.keys()
-        other = [name for name in sorted(both) if there[name] != header[name]]
-        for name in other:
-            print(f"{producer}: {name} is {sorted(header[name])} here, and {sorted(there[name])} there")
-        alone = f"{len(header.keys() - both)} only here, {len(there.keys() - both)} only there"
-        print(f"{producer}: {len(both) - len(other)} names equal, {len(other)} differ, {alone}")
-        unseen -= both
-        compared += 1
-        differ += len(other)
-    skipped = len(TABLES) - compared
-    print(f"{len(header)} constants, {len(unseen)} in no table; {compared} tables compared, {skipped} skipped")
-    if not compared:
-        return 2
-    return 1 if differ else 0
+    return frame.check("compare", [Published], section="published")

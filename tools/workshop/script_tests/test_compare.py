@@ -1,13 +1,11 @@
 """Tests of how `tools/compare` measures, and of how it reads lists of constants."""
-import argparse
-import contextlib
-import io
 import tempfile
 import unittest
 from unittest import mock
 
 from workshop import kit
 from workshop.compare import measure, published
+from workshop.script_tests import failed
 
 
 class Borders(unittest.TestCase):
@@ -44,12 +42,23 @@ class Constants(unittest.TestCase):
         for text, wanted in rows:
             self.assertEqual(published.values(published.of_enumerators(text)), wanted)
 
-    def test_header(self) -> None:
+    def test_checks(self) -> None:
+        """What fails if the header or the table of a producer is another one."""
         text = kit.text_of(published.HEADER)
-        for more, status in (("", 0), ("int DW_TAG_c;\n", 1)):
-            with tempfile.TemporaryDirectory() as folder, contextlib.redirect_stdout(io.StringIO()) as said:
+        names = "published.Published.names"
+        # What the header has more, what the table is, and which checks fail.
+        rows = [
+            ("", text, []),
+            ("int DW_TAG_c;\n", text, [names]),
+            ("enum { DW_TAG_planted = 0x1234 };\n", text, [names]),
+            ("", text.replace("DW_TAG_array_type = 0x01", "DW_TAG_array_type = 0x02"), ["published.Published.values/gimli"]),
+            ("", "DW_TAG_array_type = 0x01\n", ["published.Published.values/gimli"]),
+        ]
+        for more, table, wanted in rows:
+            with tempfile.TemporaryDirectory() as folder:
                 kit.write_file(f"{folder}/header", text + more)
-                kit.write_file(f"{folder}/list", "DW_TAG_array_type = 0x01\n")
-                tables = [("a list", f"{folder}/list", "", published.of_enumerators)]
-                with mock.patch.multiple(published, HEADER=f"{folder}/header", TABLES=tables, say=print):
-                    self.assertEqual(published.constants(argparse.Namespace()), status, said.getvalue())
+                kit.write_file(f"{folder}/list", table)
+                tables = {it: ("/none", "none", published.of_enumerators) for it in published.TABLES}
+                tables["gimli"] = (f"{folder}/list", "", published.of_enumerators)
+                with mock.patch.multiple(published, HEADER=f"{folder}/header", TABLES=tables):
+                    self.assertEqual(failed(published.Published), wanted, (more, table[-60:]))
