@@ -27,7 +27,7 @@ def main() -> None:
     module = importlib.import_module(f"workshop.{name}")
     if sys.argv[1:] in (["-h"], ["--help"]):
         print(f"{(module.__doc__ or '').strip()}\n\nEach command of tools/ has --help:\n")
-        for it, (_, what) in COMMANDS.items():
+        for it, (_, what) in [*COMMANDS.items(), ("install", ("", "installs the library and the programs"))]:
             print(f"    {it:12} {what}")
     else:
         frame.run(module.main, sys.argv[1:])

@@ -58,8 +58,9 @@ def differences(section: str, made: Counts) -> list[str]:
     known = sections().get(section, {})
     # The parts of a check that was skipped or failed are unknown.
     unknown = tuple(f"{name}/" for name, count in made.items() if count is None)
+    fronts = {name for name in made if made[name] is None and any(it.startswith(f"{name}/") for it in known)}
     lines = [f"{it} was neither made nor skipped" for it in known if it not in made and not it.startswith(unknown)]
-    other = {name: count or 0 for name, count in made.items() if name not in known}
+    other = {name: count or 0 for name, count in made.items() if name not in known and name not in fronts}
     lines += [f"tools/checks.txt lacks, in its section {section}: {it}" for it in lines_of(other)]
     for name, (count, _) in known.items():
         there = made.get(name)

@@ -109,6 +109,7 @@ class Making(unittest.TestCase):
             ran = kit.run([f"{kit.ROOT}/tools/{name}", "--help"])
             self.assertEqual(ran.returncode, 0, name)
             self.assertIn(f"    tools/{name}", ran.stdout)
+            self.assertIn("    install ", ran.stdout)
             self.assertRegex(ran.stdout, f"(?m)^    {name} ", module)
 
 
@@ -145,7 +146,9 @@ class Floor(unittest.TestCase):
             ({"a.A.rows/v": 7}, [], ["one: a.A.rows: v*7"]),
             ({"a.A.rows/y": 11}, [], ["a.A.rows/y made 11 comparisons, and tools/checks.txt has 12"]),
             # The parts of a check that was skipped are unknown.
-            ({"a.A.rows": None}, ["a.A.rows/x", "a.A.rows/y", "a.A.rows/z w"], ["one: a.A.rows"]),
+            ({"a.A.rows": None}, ["a.A.rows/x", "a.A.rows/y", "a.A.rows/z w"], []),
+            ({"a.A.row": None}, [], ["one: a.A.row"]),
+            ({"a.A.rows": 0}, [], ["one: a.A.rows"]),
         ]
         for more, without, wanted in rows:
             made = {name: count for name, count in {**whole, **more}.items() if name not in without}
