@@ -99,7 +99,8 @@ fn wanted(words: &mut dyn Iterator<Item = String>) -> Result<Wanted, String> {
             "--demand" => found.is_demand = true,
             // The last one is planted where the units of gimli 0.27 are compared.
             "--plants" => {
-                found.left_out = usize::from(!HAS_UNITS);
+                // The last two.
+                found.left_out = if HAS_UNITS { 0 } else { 2 };
                 found.plants = (0..PLANTS.len() - found.left_out).collect();
             }
             "--plant" => {

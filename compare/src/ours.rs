@@ -4,7 +4,7 @@
 //! many items as its length says, a vector for as many as its capacity, and an output overlaps nothing, since it is
 //! borrowed mutably.
 
-use crate::plain::length_at;
+use crate::plain::{has, length_at, Plant};
 use crate::question;
 use crate::question::{error_name, fault_of_text, sum_of, Answer, Declaration, Question, What};
 use crate::room::Room;
@@ -232,8 +232,10 @@ fn asked(reader: u32, question: &Question) -> Asked {
 
 /// The readers that are asked now and then: slices whose byte order is their type's or known at run time, and the
 /// reader of `crates/dwarf_uses`.
-const READERS: [&str; 3] = ["EndianSlice<BigEndian>", "EndianSlice<RunTimeEndian>", OWNED];
+pub const READERS: [&str; 3] = ["EndianSlice<BigEndian>", "EndianSlice<RunTimeEndian>", OWNED];
 const OWNED: &str = "OwnedReader";
+/// What is planted in the result of each.
+const PLANTS: [Plant; READERS.len()] = [Plant::BigReader, Plant::RunTimeReader, Plant::OwnedReader];
 
 /// What each of them finds that doesn't find the same.
 pub fn by_readers(question: &Question, bytes: &[u8], ours: &Answer) -> Vec<(&'static str, Answer)> {
@@ -271,6 +273,7 @@ fn by_reader(reader: u32, question: &Question, bytes: &[u8]) -> Option<Answer> {
     let (mut found, mut text) = ([0; 4], [0; 100]);
     let (at, to) = (bytes.as_ptr(), text.as_mut_ptr());
     let len = unsafe { compare_readers(at, bytes.len(), &asked, &mut found, to, text.len()) };
+    found[0] ^= u64::from(has(PLANTS[reader as usize]));
     let is_number = (question.what as u32) < What::Table as u32;
     Some(match (len, question.what) {
         (0, _) | (_, What::Addresses) => Answer::Parts(found),

@@ -76,6 +76,19 @@ plants! {
     Entries "entries",
     /// gimli's result of a number leaves one byte more. This one is planted where gimli is called.
     Gimli "gimli",
+    /// Each of gimli's other results is another one, where gimli is called: a table or a list lacks its last row, and a
+    /// number is one too great.
+    GimliTable "gimli-table",
+    GimliFound "gimli-found",
+    GimliText "gimli-string",
+    GimliStrOffset "gimli-str-offset",
+    GimliAddress "gimli-address",
+    /// Another reader of the library finds another number.
+    BigReader "big-reader",
+    RunTimeReader "run-time-reader",
+    OwnedReader "owned-reader",
+    /// These need the units of gimli 0.27. Its list of units lacks the last one.
+    GimliUnits "gimli-units",
     /// A gimli that takes any address size of a unit is held to the library's error. This is planted where that is
     /// decided.
     AnySize "any-size",

@@ -1,6 +1,6 @@
 //! Asks all readers, counts what they give, and prints where they differ.
 
-use crate::ours::{by_readers, Ours};
+use crate::ours::{by_readers, Ours, READERS};
 use crate::plain;
 use crate::question::{Answer, Question};
 use crate::shrink::shrink;
@@ -137,7 +137,7 @@ impl Tally {
         if self.theirs.is_strict {
             println!("this gimli wants the null code of a table, so it was compared with the strict reading");
         }
-        println!("{} inputs were read by four other readers of the library too", self.by_all);
+        println!("{} inputs were read by {} other readers of the library too", self.by_all, READERS.len());
         println!(
             "the second reader alone had strict readings, caches, growth, written numbers and sets of string offsets"
         );

@@ -35,6 +35,11 @@ impl Theirs {
     /// What gimli gives, or `None` if it has no such call. `plain` is the second reader's result: gimli's tables can't
     /// be walked, so that the codes that are looked up come from there.
     pub fn answer(&self, question: &Question, bytes: &[u8], plain: &Answer) -> Option<Answer> {
+        self.found(question, bytes, plain).map(|it| planted(question.what, it))
+    }
+
+    /// The same, as gimli gives it.
+    fn found(&self, question: &Question, bytes: &[u8], plain: &Answer) -> Option<Answer> {
         let table = || DebugAbbrev::new(bytes, LittleEndian).abbreviations(DebugAbbrevOffset(question.at));
         let tag = |table: &gimli::Abbreviations, code: &u64| table.get(*code).map_or(0, |it| it.tag().0);
         let found = match question.what {
@@ -68,6 +73,27 @@ impl Theirs {
         }
         ours
     }
+}
+
+/// A result of gimli's, or another one if that is planted for its question.
+fn planted(what: What, mut found: Answer) -> Answer {
+    let is_planted = match what {
+        What::Table => has(Plant::GimliTable),
+        What::Found => has(Plant::GimliFound),
+        What::Text => has(Plant::GimliText),
+        What::StrOffset => has(Plant::GimliStrOffset),
+        What::Address => has(Plant::GimliAddress),
+        What::InfoUnits | What::TypesUnits | What::UnitAt => has(Plant::GimliUnits),
+        _ => false,
+    };
+    match &mut found {
+        Answer::Value { value, .. } if is_planted => *value += 1,
+        Answer::Table { declarations, .. } if is_planted => drop(declarations.pop()),
+        Answer::Tags(tags) if is_planted => drop(tags.pop()),
+        Answer::Units { units, .. } if is_planted => drop(units.pop()),
+        _ => (),
+    }
+    found
 }
 
 /// Strings and lookups by an index, and sets.

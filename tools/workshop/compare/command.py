@@ -116,11 +116,12 @@ def compare(given: argparse.Namespace) -> int:
 
 
 # What the program says of a question, of a planted error, of the short inputs, of those that other readers of the library
-# had, and of what this gimli hasn't.
+# had, of the offsets of a file's section that were asked for, and of what this gimli hasn't.
 QUESTION = re.compile(r"^([\w-]+): \d+ inputs, (\d+) differences", re.M)
 PLANT = re.compile(r"^planted ([\w-]+): (not )?found in ", re.M)
 SHORT = re.compile(r"^all short inputs: (\d+) in ", re.M)
-OTHERS = re.compile(r"^(\d+) inputs were read by four other readers", re.M)
+OTHERS = re.compile(r"^(\d+) inputs were read by 3 other readers", re.M)
+OFFSETS = re.compile(r"^\S+ \.debug_\w+: (\d+) of \d+ offsets$", re.M)
 LEFT_OUT = {
     "sets": "this gimli has no sets of addresses, so the second reader alone had them",
     "units": "units are compared with gimli 0.27, so the second reader alone had them",
@@ -148,6 +149,8 @@ def states_of(said: str, status: int) -> frame.States:
             states[f"gimli/{name}"] = State(SKIPPED, why) if f"left out: {why}\n" in said else State(PASSED)
         others = OTHERS.search(said)
         states["other readers"] = State(PASSED if others and int(others[1]) else FAILED)
+    if asked := OFFSETS.findall(said):
+        states["offsets of files"] = State(PASSED if all(map(int, asked)) else FAILED)
     if short := SHORT.search(said):
         states["short inputs"] = State(PASSED, count=int(short[1]))
     states.update((f"plant/{it}", State(FAILED if lost else PASSED)) for it, lost in PLANT.findall(said))

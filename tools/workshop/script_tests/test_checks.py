@@ -216,10 +216,12 @@ seed 1, gimli 0.27.0
 planted position: found in 7 inputs and 0.00 seconds
 planted gimli: not found in 9 inputs and 10.00 seconds
 all short inputs: 11965026 in 9.1 seconds
+/file.debug .debug_str: 7 of 9 offsets
+file .debug_str: 9 of 9 offsets
 table: 12 inputs, 0 differences: a 12
 units: 3 inputs, 2 differences: b 3
 left out: this gimli has no sets of addresses, so the second reader alone had them
-7 inputs were read by four other readers of the library too
+7 inputs were read by 3 other readers of the library too
 2 passed, 2 failed, 1 skipped: 15 inputs, of which gimli 0.27.0 read 9, and 2 differences
 """
 
@@ -232,6 +234,7 @@ left out: this gimli has no sets of addresses, so the second reader alone had th
             "gimli/units": PASSED,
             "other readers": PASSED,
             "short inputs": PASSED,
+            "offsets of files": PASSED,
             "plant/position": PASSED,
             "plant/gimli": FAILED,
         }
@@ -239,7 +242,9 @@ left out: this gimli has no sets of addresses, so the second reader alone had th
         self.assertEqual(states["short inputs"].count, 11965026)
 
     def test_others(self) -> None:
-        """No other reader, plants that are left out, and a status that nothing explains."""
+        """No other reader, no offset, plants that are left out, and a status that nothing explains."""
+        none = command.states_of(self.SAID.replace("\nfile .debug_str: 9", "\nfile .debug_str: 0"), 1)
+        self.assertEqual(none["offsets of files"].state, FAILED)
         said = self.SAID.replace("7 inputs were read", "0 inputs were read").replace("planted gimli: not found", "none")
         self.assertEqual(command.states_of(said, 1)["other readers"].state, FAILED)
         left = len(command.plants()) - 1
