@@ -587,7 +587,11 @@ static void check_offsets(void) {
     check(offset == 7 && address == 7, "outputs of lookups that failed");
 }
 
-int main(void) {
+int main(int argc, char **argv) {
+    if (argc == 2 && strcmp(argv[1], "--fail") == 0) {
+        check(false, "a check that fails");
+        return failures;
+    }
     check_numbers();
     check_constants();
     check_sizes();

@@ -3,11 +3,12 @@
  * that is passed, to each output, and to each block that the library allocates.
  *
  *     dwarf_guarded FILE..
+ *     dwarf_guarded --before | --after    touches the byte before an output, or after it, and so has to fail
  *
  * All of this is done twice: with that page right before the first byte, and right after the last one. The
  * section itself may only be read. So a call that touches a byte outside ends with a signal, and the program
  * names the call. On the other side of an output the bytes are compared with what they were. The status is 0
- * if no byte outside was touched.
+ * if no byte outside was touched. The last line has the numbers of calls of both times, which are equal.
  *
  * The program defines the three functions that the library allocates memory with, so it is an example of that,
  * too. Each allocation of the calls that make some fails once, and then the call has to say so. The program
@@ -481,8 +482,18 @@ static size_t read_file(const char *path, uint8_t *bytes, size_t room) {
     return len;
 }
 
+/* Touches a byte outside of an output, as no call may. */
+static int touch_outside(bool is_after) {
+    is_at_end = is_after;
+    call = "this program";
+    volatile uint8_t *given = (volatile uint8_t *)give(&outputs[0], 16);
+    given[is_after ? 16 : -1] = 0;
+    return 0;
+}
+
 int main(int argc, char **argv) {
     static uint8_t bytes[2048];
+    unsigned long first_calls = 0;
     bool is_made = make(&section, sizeof bytes);
     for (size_t at = 0; at < OUTPUTS; at++) {
         is_made = is_made && make(&outputs[at], (size_t)PAGES * PAGE);
@@ -493,8 +504,12 @@ int main(int argc, char **argv) {
     }
     signal(SIGSEGV, on_signal);
     signal(SIGBUS, on_signal);
+    if (strcmp(argv[1], "--before") == 0 || strcmp(argv[1], "--after") == 0) {
+        return touch_outside(argv[1][2] == 'a');
+    }
     for (int round = 0; round < 2; round++) {
         is_at_end = round == 1;
+        first_calls = calls;
         for (int at = 1; at < argc; at++) {
             call_on_cuts(bytes, read_file(argv[at], bytes, sizeof bytes));
         }
@@ -506,6 +521,6 @@ int main(int argc, char **argv) {
         call_version();
         call_writers();
     }
-    printf("%lu calls, and no byte outside was touched\n", calls);
+    printf("%lu and %lu calls, and no byte outside was touched\n", first_calls, calls - first_calls);
     return 0;
 }

@@ -3,7 +3,7 @@ import os
 import re
 import shutil
 import subprocess
-from collections.abc import Sequence
+from collections.abc import Iterable, Sequence
 
 from workshop import frame, kit
 from workshop.checks import cases, rows
@@ -55,6 +55,13 @@ SYSTEMS = {
     "x86_64-apple-macosx10.12": "ld64.lld",
     "arm64-apple-macosx11": "ld64.lld",
     "arm64-apple-ios14": "ld64.lld",
+}
+# Systems that there is no code for.
+OTHERS = {
+    "i386": ["cc", "-m32"],
+    "x32": ["clang", "--target=x86_64-unknown-linux-gnux32"],
+    "aarch64_be": ["clang", "--target=aarch64_be-unknown-linux-gnu"],
+    "riscv32": ["clang", "--target=riscv32-unknown-linux-gnu"],
 }
 LINK = {
     "ld.lld": ["-shared", "-z", "defs", "-o", "linked"],
@@ -180,10 +187,15 @@ class OfLibrary(frame.Check):
         self.must([compiler, *flags, *as_language(compiler), source, *heap, "-x", "none", LIBRARY, "-o", name])
         return [*by, name]
 
-    def run_test(self, build: Build, name: str, *words: str) -> None:
-        """Builds and runs a test."""
+    def run_test(self, build: Build, name: str, *words: str, faults: Iterable[str] = ()) -> str:
+        """Builds and runs a test, and returns what it prints. With each of these words it has to fail."""
         env = self.needed_by(build)
-        self.must([*self.built(build, f"{TESTS}/{name}.c"), *words], env=env)
+        program = self.built(build, f"{TESTS}/{name}.c")
+        for it in faults:
+            said, status = frame.output([*program, it], cwd=self.work, env=env)
+            self.assertRegex(said, b"^failed: ", it)
+            self.assertEqual(status, 1, it)
+        return self.must([*program, *words], env=env)
 
     def freestanding(self, build: Build) -> None:
         """Builds and runs a program without a C library."""
@@ -206,15 +218,29 @@ class Programs(OfLibrary):
     def test_compiled(self, name: str) -> None:
         frame.need(name)
         tests = [f"{TESTS}/{it}.c" for it in ("dwarf_bounds", "dwarf_guarded")]
+        tests.append(f"{TESTS}/dwarf_loads.c")
         self.must([name, *STRICT, *as_language(name), "-c", *tests])
 
     @frame.each(TESTED)
     def test_bad_input(self, name: str) -> None:
-        self.run_test(BUILDS[name], "dwarf_bounds")
+        self.run_test(BUILDS[name], "dwarf_bounds", faults=["--fail"])
 
     @frame.each(it for it in TESTED if it != "valgrind")
     def test_pages_without_access(self, name: str) -> None:
-        self.run_test(BUILDS[name], "dwarf_guarded", *rows.put_sections(self.work))
+        words = rows.put_sections(self.work)
+        said = self.run_test(BUILDS[name], "dwarf_guarded", *words, faults=["--before", "--after"])
+        # Both times, with the page before the first byte and after the last one.
+        before, after = re.findall(r"^(\d+) and (\d+) calls", said, re.M)[-1]
+        self.assertEqual(before, after)
+        self.assertGreater(int(before), 100 * len(words))
+
+    @frame.each(HERE)
+    def test_loads(self, name: str) -> None:
+        """What memory a loaded table keeps, and what is left if it runs out."""
+        compiler, _, by = HERE[name]
+        self.needed_by(HERE[name])
+        self.must([compiler, *STRICT, "-std=c99", "-static", f"{TESTS}/dwarf_loads.c", LIBRARY, "-o", "loads"])
+        self.must([*by, f"{self.work}/loads"])
 
     @frame.each(HERE)
     def test_without_c_library(self, name: str) -> None:
@@ -246,6 +272,12 @@ class Programs(OfLibrary):
         ran = [(it, cases.run(it, qemu, f"{self.work}/dwarf_list")) for it in cases.all_cases()]
         self.assertTrue(ran)
         self.assertEqual([it.place for it, came in ran if not it.is_met(*came)], [])
+
+    def test_usage(self) -> None:
+        """The example says how it is called."""
+        said, status = frame.output(self.built(BUILDS["cc"], SHOW))
+        self.assertRegex(said, rb"^usage: dwarf_show abbrev OFFSET \|")
+        self.assertEqual(status, 2)
 
     def test_example_in_arena(self) -> None:
         """The example with arenas requests nothing from malloc."""
@@ -401,8 +433,12 @@ class Systems(frame.Check):
         self.must([*clang, LIBRARY, "-o", "library.o"])
         self.must(link)
 
-    def test_others(self) -> None:
+    @frame.each(OTHERS)
+    def test_refused(self, name: str) -> None:
         """On a processor that there is no code for, the file for C says so in one line."""
-        ran = kit.run(["cc", "-m32", "-c", LIBRARY, "-o", "other.o"], cwd=self.work)
-        errors = re.findall(r"error: #error (.*)", ran.stdout)
-        self.assertTrue(ran.returncode and len(errors) == 1 and "x86-64" in errors[0], ran.stdout)
+        frame.need(OTHERS[name][0])
+        ran = kit.run([*OTHERS[name], "-c", LIBRARY, "-o", "other.o"], cwd=self.work)
+        errors = re.findall(r"error: (.*)", ran.stdout)
+        self.assertNotEqual(ran.returncode, 0)
+        self.assertEqual(len(errors), 1, ran.stdout)
+        self.assertIn("dwarf_read has code for Linux and FreeBSD on x86-64", errors[0])
