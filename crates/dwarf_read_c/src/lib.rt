@@ -15,7 +15,6 @@
 mod families;
 pub mod forms;
 mod headers;
-mod kept;
 pub mod laws;
 pub mod names;
 pub mod numbers;
@@ -24,6 +23,7 @@ pub mod rows;
 pub mod sections;
 pub mod sets;
 pub mod status;
+mod table_rows;
 pub mod tables;
 pub mod texts;
 pub mod units;

@@ -10,9 +10,9 @@ ghost use Rattle.dwarf_read_c.specs.Room.{Fills};
 ghost use Rattle.dwarf_read_c.specs.Sections.{section_of};
 ghost use Rattle.dwarf_read_c.specs.Tables.{LacksRoom, Measures, abbreviations_of, attributes_of, measure_of};
 
-use crate::kept::Kept;
 use crate::rows::{DwarfAbbreviation, DwarfAttributeSpec, DwarfMeasure};
 use crate::status::{DWARF_NO_ROOM, DWARF_OK};
+use crate::table_rows::TableRows;
 use dwarf_fault::{DwarfFault, reject};
 use dwarf_read_core::{DebugAbbrev, DebugAbbrevOffset, Error, LittleEndian};
 use std::alloc::Global;
@@ -111,7 +111,7 @@ pub extern "C" fn dwarf_table_read_0_3(
 }
 
 // Returns the table at an offset, and where it ends.
-fn table_at(mem: Global, section: &[u8], offset: usize) -> Result<(Kept, usize), Error>
+fn table_at(mem: Global, section: &[u8], offset: usize) -> Result<(TableRows, usize), Error>
     ensures answer { let s = section_of section.now false in
         IfOk result (λ r. Answer s offset (Ok r.0) × TableEndsAt s offset r.0 r.1) }
     ensures err { IfErr result (λ e. Answers (Err e) (section_of section.now false) offset) }
@@ -127,7 +127,7 @@ fn table_at(mem: Global, section: &[u8], offset: usize) -> Result<(Kept, usize),
 // Writes the measure of a table that ends there, and its abbreviations and attributes to the front
 // of the arrays. If either is too short, only the measure is written.
 fn put_table(
-    table: &Kept,
+    table: &TableRows,
     end: usize,
     abbreviations: &mut [DwarfAbbreviation],
     attributes: &mut [DwarfAttributeSpec],

@@ -115,8 +115,8 @@ fn unit_at<R: Reader<Offset = usize>, U: UnitSection>(
 ) -> Result<(), Error>
     requires clones { R.clone_is_free ≡ true }
     ensures found { let s = R.view section in
-        OnOk result (TellsUnit (unit_header U.CODE.0) s offset unit.new) }
-    ensures err { let s = R.view section in let header = unit_header U.CODE.0 in
+        OnOk result (TellsUnit (unit_header U.TYPE_BEFORE_5.0) s offset unit.new) }
+    ensures err { let s = R.view section in let header = unit_header U.TYPE_BEFORE_5.0 in
         IfErr result (λ e. ContributionAtOffset header (2 ^ 64 - 1) s offset (Err e)) }
     ensures stepped { StepsOver (R.view section) offset
         (unit.old.next, unit.old.unit_length) (unit.new.next, unit.new.unit_length) }
@@ -130,7 +130,7 @@ fn unit_at<R: Reader<Offset = usize>, U: UnitSection>(
         &mut unit.unit_length,
     )?;
     let fields = fields.0;
-    let (unit_type, identifier, type_offset) = told(fields.unit_type);
+    let (unit_type, identifier, type_offset) = type_fields(fields.unit_type);
     *unit = DwarfUnit {
         next: unit.next,
         unit_length: unit.unit_length,
@@ -147,7 +147,7 @@ fn unit_at<R: Reader<Offset = usize>, U: UnitSection>(
 }
 
 // The number of a unit's type, what identifies the unit, and where its type is.
-fn told(unit_type: UnitType<usize>) -> (u8, u64, usize)
+fn type_fields(unit_type: UnitType<usize>) -> (u8, u64, usize)
     ensures { result ≡ (type_number unit_type, identifier unit_type, type_place unit_type) }
 {
     match unit_type {

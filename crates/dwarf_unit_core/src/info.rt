@@ -117,9 +117,9 @@ impl<R> From<R> for DebugInfo<R> {
 }
 
 impl<R: Drop> UnitSection for DebugInfo<R> {
-    ghost CODE = { record { 0 = compile_unit } };
+    ghost TYPE_BEFORE_5 = { record { 0 = compile_unit } };
 
-    const CODE: DwUt = DW_UT_compile;
+    const TYPE_BEFORE_5: DwUt = DW_UT_compile;
 }
 
 /// The fields of a header in `.debug_info`.

@@ -83,9 +83,9 @@ impl<R> From<R> for DebugTypes<R> {
 }
 
 impl<R: Drop> UnitSection for DebugTypes<R> {
-    ghost CODE = { record { 0 = type_unit } };
+    ghost TYPE_BEFORE_5 = { record { 0 = type_unit } };
 
-    const CODE: DwUt = DW_UT_type;
+    const TYPE_BEFORE_5: DwUt = DW_UT_type;
 }
 
 /// The fields of a header in `.debug_types`.

@@ -17,10 +17,10 @@ use std::marker::PhantomData;
 
 /// A section of units: `.debug_info`, or `.debug_types` of version 4.
 pub trait UnitSection: Drop {
-    ghost CODE: { DwUt };
+    ghost TYPE_BEFORE_5: { DwUt };
 
     /// The type of the section's units before version 5, whose headers don't say it.
-    const CODE: DwUt;
+    const TYPE_BEFORE_5: DwUt;
 }
 
 /// The fields of the header of a unit in the section `U`.
@@ -34,12 +34,12 @@ impl<R: Reader, U: UnitSection> HeaderFields<R> for SectionFields<R::Offset, U> 
 
     ghost said = { λ fields. seen_fields R.Offset.value fields.0 };
 
-    ghost header = { unit_header U.CODE.0 };
+    ghost header = { unit_header U.TYPE_BEFORE_5.0 };
 
     const NAME: &'static str = "UnitHeader";
 
     fn parse(unit: &mut R, format: Format) -> Result<Self> {
-        let fields = parse_fields(unit, format, U::CODE)?;
+        let fields = parse_fields(unit, format, U::TYPE_BEFORE_5)?;
         Ok(SectionFields(fields, PhantomData))
     }
 
@@ -84,7 +84,7 @@ impl<R: Reader, U: UnitSection> UnitHeadersIter<R, U> {
     /// `OutOfMemory` if memory for a reader of the unit runs out. After any error the iterator is
     /// exhausted: `next` returns `Ok(None)`.
     pub fn next(&mut self) -> Result<Option<UnitHeader<R>>>
-        ensures first { let header = unit_header U.CODE.0 in
+        ensures first { let header = unit_header U.TYPE_BEFORE_5.0 in
             GivesFirst (RepresentsContributionsOf R.view header R.Offset.GREATEST)
             (seen_unit R.Offset.value R.view) R.clone_is_free self.old.headers
             (result_transpose result) self.new.headers }
@@ -100,7 +100,7 @@ impl<R: Reader, U: UnitSection> UnitHeadersIter<R, U> {
         // Appended bytes change neither a unit nor an error, unless that is an `UnexpectedEof` or
         // memory ran out.
         ensures stable { let old = remaining_of R.view self.old.headers in
-            StaysFirst (RepresentsContributions (unit_header U.CODE.0) R.Offset.GREATEST)
+            StaysFirst (RepresentsContributions (unit_header U.TYPE_BEFORE_5.0) R.Offset.GREATEST)
             (seen_unit R.Offset.value R.view) R.clone_is_free followed_remaining old
             (result_transpose result) (remaining_of R.view self.new.headers) }
     {
@@ -125,7 +125,7 @@ impl<R: Reader, U: UnitSection> Iterator for UnitHeadersIter<R, U> {
     ghost use Rattle.dwarf_unit_core.specs.Fields.{unit_header};
     ghost use Rattle.dwarf_unit_core.specs.Seen.{seen_unit};
 
-    ghost next_gives = { λ old item new. GivesFirst (RepresentsContributionsOf R.view (unit_header U.CODE.0) R.Offset.GREATEST) (seen_unit R.Offset.value R.view) R.clone_is_free old.headers item new.headers };
+    ghost next_gives = { λ old item new. GivesFirst (RepresentsContributionsOf R.view (unit_header U.TYPE_BEFORE_5.0) R.Offset.GREATEST) (seen_unit R.Offset.value R.view) R.clone_is_free old.headers item new.headers };
 
     ghost remaining = { λ units. at_most (length (R.view units.headers.rest).bytes) };
 

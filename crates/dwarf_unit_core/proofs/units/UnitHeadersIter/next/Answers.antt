@@ -15,7 +15,7 @@ returns-in-Ok-Some-clause-stable g c =
 pub returns-in-Ok-Some-clause-bound : goal.returns-in-Ok-Some-clause-bound
 returns-in-Ok-Some-clause-bound g c =
     let taken = rw c.in-Ok-Some.field-0-is at c.in-Ok-Some.ensures.bound in
-    omega (arith, taken, unit-least g.U.UnitSection.CODE.0 _ (rw c.in-Ok-Some.field-0-is at c.in-Ok-Some.ensures.first))
+    omega (arith, taken, unit-least g.U.UnitSection.TYPE_BEFORE_5.0 _ (rw c.in-Ok-Some.field-0-is at c.in-Ok-Some.ensures.first))
 
 pub returns-in-Ok-Some-clause-entries_order : goal.returns-in-Ok-Some-clause-entries_order
 returns-in-Ok-Some-clause-entries_order g c =

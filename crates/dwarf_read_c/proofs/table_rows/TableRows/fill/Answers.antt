@@ -1,6 +1,6 @@
 use Rattle.dwarf_read_c.proofs.Common.{arith, common_steps}
 use Rattle.dwarf_read_c.proofs.LaidOut.{laid_attributes, laid_counts, laid_rows}
-use Rattle.dwarf_read_c.proofs.kept.Kept.fill.Goals as goal
+use Rattle.dwarf_read_c.proofs.table_rows.TableRows.fill.Goals as goal
 
 pub slice_bounds-copy_from_slice-end : goal.slice_bounds-copy_from_slice-end
 slice_bounds-copy_from_slice-end c = grind (arith, common_steps, (laid_counts _ _ _ c.self.invariant))

@@ -5,8 +5,8 @@ use Rattle.dwarf_read_c.specs.Laid.{laid_out}
 use Rattle.dwarf_read_c.proofs.Common.{◌≡◌, ℕ, ◌+◌, ◌<◌, ◌≤◌, List, ◌∷◌, ◌++◌, length, map, arith, common_steps, len}
 use Rattle.dwarf_read_c.proofs.PlacedRows.{placed-all, placed-turn, placed-within}
 use Rattle.dwarf_read_c.proofs.WrittenTables.{attributes_count, laid_set, length-laid_from, length-values}
-use Rattle.dwarf_read_c.proofs.kept.fill_by_place.Goals as goal
-use Rattle.dwarf_read_c.proofs.kept.fill_by_place.Goals.{In-Some}
+use Rattle.dwarf_read_c.proofs.table_rows.fill_by_place.Goals as goal
+use Rattle.dwarf_read_c.proofs.table_rows.fill_by_place.Goals.{In-Some}
 
 -- the places so far
 abbrev before : In-Some → List ℕ

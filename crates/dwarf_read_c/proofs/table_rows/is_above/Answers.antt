@@ -1,6 +1,6 @@
 use Rattle.dwarf_read_c.proofs.Common.{arith}
 use Rattle.dwarf_read_c.proofs.RisingCodes.{last-code-of-row}
-use Rattle.dwarf_read_c.proofs.kept.is_above.Goals as goal
+use Rattle.dwarf_read_c.proofs.table_rows.is_above.Goals as goal
 
 pub returns-in-Some : goal.returns-in-Some
 returns-in-Some c =

@@ -21,7 +21,7 @@ use std::marker::Model;
 
 // A table that is read.
 #[derive(Drop)]
-pub(crate) struct Kept {
+pub(crate) struct TableRows {
     // Its abbreviations, in the order in which they came.
     rows: Vec<DwarfAbbreviation>,
     // Those of all abbreviations, in their order.
@@ -31,7 +31,7 @@ pub(crate) struct Kept {
     closed_by_null: bool,
 }
 
-impl Model for Kept {
+impl Model for TableRows {
     ghost use Rattle.dwarf_read_core.specs.Codes.{close_from, table_code};
     ghost use Rattle.dwarf_read_core.specs.Grammar.{Table, by_code_of, closed};
     ghost use Rattle.dwarf_read_c.specs.Laid.{AreKept, laid_out};
@@ -46,7 +46,7 @@ impl Model for Kept {
     ghost invariant = { λ k. AreKept k.attributes.items k.rows.items k.places.entries };
 }
 
-impl Kept {
+impl TableRows {
     // Returns how large the table is, and that it ends there.
     pub(crate) fn measure(&self, end: usize) -> DwarfMeasure
         ensures { result ≡ measure_of self.now end }
@@ -86,11 +86,11 @@ impl Kept {
     }
 }
 
-impl AbbreviationSink for Kept {
+impl AbbreviationSink for TableRows {
     ghost table = { λ t. t };
 
-    fn new(mem: Global) -> Kept {
-        Kept {
+    fn new(mem: Global) -> TableRows {
+        TableRows {
             rows: Vec::new(mem),
             attributes: Vec::new(mem),
             places: BTreeMap::new(mem),

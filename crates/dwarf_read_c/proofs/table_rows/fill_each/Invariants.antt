@@ -1,5 +1,5 @@
 use Rattle.dwarf_read_c.proofs.Common.{◌≡◌, map, take, attribute_of}
-use Rattle.dwarf_read_c.proofs.kept.fill_each.Given as goal
+use Rattle.dwarf_read_c.proofs.table_rows.fill_each.Given as goal
 
 -- the attributes so far are at the front of the places
 abbrev pub invariant-loop-i : goal.invariant-loop-i

@@ -9,8 +9,8 @@ use Rattle.std.proofs.Common.{All}
 use Rattle.dwarf_read_c.proofs.Common.{◌≡◌, ◌<◌, Bool, true, false, List, [], ◌∷◌, ◌++◌, refl, length, arith, abbreviation_of, Declaration}
 use Rattle.dwarf_read_c.proofs.PlacedRows.{kept-inserted, kept-more, placed-some}
 use Rattle.dwarf_read_c.proofs.RisingCodes.{rising-fresh}
-use Rattle.dwarf_read_c.proofs.kept.KeptAbbreviationSink.declare.Goals as goal
-use Rattle.dwarf_read_c.proofs.kept.KeptAbbreviationSink.declare.Goals.{then-is_empty+then-is_above+in_ok-extend_from_slice, else-is_empty+in_ok-extend_by_place}
+use Rattle.dwarf_read_c.proofs.table_rows.TableRowsAbbreviationSink.declare.Goals as goal
+use Rattle.dwarf_read_c.proofs.table_rows.TableRowsAbbreviationSink.declare.Goals.{then-is_empty+then-is_above+in_ok-extend_from_slice, else-is_empty+in_ok-extend_by_place}
 
 -- the byte of a `bool` is its bit
 byte-bit : (b : Bool) → bool_byte b ≡ bit_of b

@@ -5,7 +5,7 @@ use Rattle.dwarf_read_c.proofs.Common.{◌≡◌, length, take, refl, arith, com
 use Rattle.dwarf_read_c.proofs.LaidOut.{laid_take}
 use Rattle.dwarf_read_c.proofs.PlacedRows.{placed-absent, placed-more, placed-none}
 use Rattle.dwarf_read_c.proofs.RisingCodes.{rising-at, rising-fresh}
-use Rattle.dwarf_read_c.proofs.kept.places_of.Goals as goal
+use Rattle.dwarf_read_c.proofs.table_rows.places_of.Goals as goal
 
 -- what is past the rows
 abbrev none : DwarfAbbreviation

@@ -3,8 +3,8 @@ use Rattle.std.proofs.lemmas.List.{length-map}
 use Rattle.dwarf_read_c.specs.Laid.{AreKept, ArePlaced, declaration_from, laid_out}
 use Rattle.dwarf_read_c.proofs.Common.{length, sym, arith}
 use Rattle.dwarf_read_c.proofs.PlacedRows.{kept-placed, placed-has, placed-lacks, placed-more}
-use Rattle.dwarf_read_c.proofs.kept.extend_by_place.Goals as goal
-use Rattle.dwarf_read_c.proofs.kept.extend_by_place.Goals.{After-entry, then-is_empty+in_ok-places, else-is_empty}
+use Rattle.dwarf_read_c.proofs.table_rows.extend_by_place.Goals as goal
+use Rattle.dwarf_read_c.proofs.table_rows.extend_by_place.Goals.{After-entry, then-is_empty+in_ok-places, else-is_empty}
 
 -- each code has its place
 placed : (c : After-entry)

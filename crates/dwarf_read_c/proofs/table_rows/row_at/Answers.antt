@@ -1,7 +1,7 @@
 use Rattle.dwarf_read_c.specs.declared.rows.DwarfAbbreviation.{DwarfAbbreviation}
 use Rattle.dwarf_read_c.proofs.Common.{arith}
 use Rattle.dwarf_read_c.proofs.LaidOut.{laid_at, row_again, row_within}
-use Rattle.dwarf_read_c.proofs.kept.row_at.Goals as goal
+use Rattle.dwarf_read_c.proofs.table_rows.row_at.Goals as goal
 
 -- what is past the rows
 abbrev none : DwarfAbbreviation

@@ -3,7 +3,7 @@ use Rattle.dwarf_read_core.specs.Others.{at_place}
 use Rattle.dwarf_read_c.specs.Laid.{laid_out}
 use Rattle.dwarf_read_c.proofs.Common.{◌≡◌, ◌++◌, drop, length, map, take, attributes_in, laid_from}
 use Rattle.dwarf_read_c.proofs.WrittenTables.{attributes_count}
-use Rattle.dwarf_read_c.proofs.kept.fill_by_place.Given as goal
+use Rattle.dwarf_read_c.proofs.table_rows.fill_by_place.Given as goal
 
 -- the abbreviations at the places so far and their attributes are at the front of the arrays, and what is after them is
 -- unchanged
