@@ -13,10 +13,10 @@
  *
  * WHAT A CALL DOES. A call returns DWARF_OK and has written its outputs, or it returns another status.
  * A status from 1 to 99 is the number of an error. The call has then written that number to `fault`,
- * with the position or value that the error carries, and has written nothing else. There are two exceptions:
- * dwarf_fault_text, whose `fault` is an input, has written nothing with DWARF_OUT_OF_MEMORY; and the calls that
+ * with the position or value that the error carries, and has written nothing else. There are three exceptions:
+ * dwarf_fault_text, whose `fault` is an input, has written nothing with DWARF_OUT_OF_MEMORY; the calls that
  * read the header of a set or a unit have also written its `next` and `unit_length`, if all of it is in the
- * section. A status from 100 on is described at the calls that return it. All offsets and positions are in
+ * section; and those that read a table have also measured what stands before the error. A status from 100 on is described at the calls that return it. All offsets and positions are in
  * bytes from the first byte that is passed.
  *
  * No call keeps a pointer or has a state, so any number of threads may make calls at once.
@@ -276,7 +276,8 @@ uint32_t dwarf_unit_header(const uint8_t *section, size_t len, bool is_big, bool
  * back.
  */
 
-/* How large a table is. */
+/* How large a table is. With an error, how large the part before it is: the abbreviations before the one with
+   the error, and in `end` the offset at which that one begins. */
 struct dwarf_measure {
     size_t abbreviations;
     size_t attributes;      /* of all abbreviations together */
@@ -311,7 +312,9 @@ struct dwarf_table {
 #if __STDC_HOSTED__
 /* Reads the table at an offset of .debug_abbrev into memory from malloc, as much as the table needs. Give it back
    with dwarf_table_free, before another table is read into `table`. The errors are those of dwarf_table_measure,
-   also DWARF_OUT_OF_MEMORY. After an error the table has no abbreviations, and no memory. */
+   also DWARF_OUT_OF_MEMORY. After an error the table has no abbreviations, and no memory, and `measure.end` is
+   the offset at which the abbreviation with the error begins: the table of the section that is cut there has the
+   ones before it. `measure.end` is 0 if there is none, since the offset is past the end or memory ran out. */
 static inline uint32_t dwarf_table_load(const uint8_t *section, size_t len, size_t offset,
                                         struct dwarf_table *table, struct dwarf_fault *fault);
 
@@ -359,7 +362,9 @@ dwarf_table_find(const struct dwarf_table *table, uint64_t code) {
     - DWARF_BAD_SIGNED_LEB128 for a value that is too long or doesn't fit 64 bits;
     - DWARF_ABBREVIATION_TAG_ZERO, DWARF_INVALID_ABBREVIATION_CHILDREN, DWARF_ATTRIBUTE_NAME_ZERO or
       DWARF_ATTRIBUTE_FORM_ZERO for a field with a value that no abbreviation has;
-    - DWARF_DUPLICATE_ABBREVIATION_CODE for a whole abbreviation with the code of an earlier one. */
+    - DWARF_DUPLICATE_ABBREVIATION_CODE for a whole abbreviation with the code of an earlier one.
+   `measure` is then that of the abbreviations before the one with the error. It is left unchanged with
+   DWARF_OUT_OF_MEMORY, or if the offset is past the end. */
 uint32_t dwarf_table_measure(const uint8_t *section, size_t len, size_t offset,
                              struct dwarf_measure *measure, struct dwarf_fault *fault);
 
@@ -367,7 +372,7 @@ uint32_t dwarf_table_measure(const uint8_t *section, size_t len, size_t offset,
    attributes of all of them in the same order. Elements after them are left unchanged. Returns
    DWARF_NO_ROOM if there is too little room for either; then only `measure` is written. It doesn't return that
    if there is room for (len - offset) / 5 abbreviations and for (len - offset) / 2 attributes. The errors are
-   those of dwarf_table_measure. */
+   those of dwarf_table_measure, which leave the same in `measure`. */
 uint32_t dwarf_table_read(const uint8_t *section, size_t len, size_t offset,
                           struct dwarf_abbreviation *abbreviations, size_t abbreviation_room,
                           struct dwarf_attribute_spec *attributes, size_t attribute_room,
@@ -437,7 +442,9 @@ static inline uint32_t dwarf_table_load(const uint8_t *section, size_t len, size
         fault->value = 0;
     }
     if (status != DWARF_OK) {
+        size_t end = status != DWARF_OUT_OF_MEMORY ? table->measure.end : 0;
         *table = empty;
+        table->measure.end = end;
     }
     return status;
 }

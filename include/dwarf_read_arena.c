@@ -116,8 +116,10 @@ uint32_t dwarf_arena_load(struct dwarf_arena *arena, const uint8_t *section, siz
         status = read_rows(arena, section, len, offset, table, fault);
     }
     if (status != DWARF_OK) {
+        size_t end = status != DWARF_OUT_OF_MEMORY ? table->measure.end : 0;
         *arena = mark;
         *table = empty;
+        table->measure.end = end;
     }
     dwarf_arena_use(before);
     return status;

@@ -46,8 +46,8 @@ struct dwarf_arena *dwarf_arena_use(struct dwarf_arena *arena);
 
 /* Reads the table at an offset of .debug_abbrev, as dwarf_table_load does, and takes memory from an arena, whichever the
    thread uses. The table is parsed twice, so that only its rows are left in the arena. They stay there until the arena
-   is assigned a mark from before; dwarf_table_free must not be called. The errors are those of dwarf_table_load. After
-   an error the arena is as it was. */
+   is assigned a mark from before; dwarf_table_free must not be called. The errors are those of dwarf_table_load, and
+   leave the same in the table. After an error the arena is as it was. */
 uint32_t dwarf_arena_load(struct dwarf_arena *arena, const uint8_t *section, size_t len, size_t offset,
                           struct dwarf_table *table, struct dwarf_fault *fault);
 

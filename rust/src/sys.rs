@@ -47,7 +47,7 @@ pub struct Unit {
     pub word_size: u8,
 }
 
-/// How large a table is.
+/// How large a table is, or what stands before its error.
 #[repr(C)]
 #[derive(Debug, Default, Clone, Copy, PartialEq, Eq)]
 pub struct Measure {

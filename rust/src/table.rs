@@ -136,6 +136,35 @@ impl Table {
         }
     }
 
+    /// Reads the abbreviations before the first error of the table at an offset of `.debug_abbrev`,
+    /// so that a broken table doesn't take the units whose entries use them. [`end`](Table::end) is
+    /// the offset at which the abbreviation with the error begins. A table without an error is read
+    /// whole.
+    ///
+    /// # Errors
+    ///
+    /// `UnexpectedEof` at 0 if the offset is past the end, and `OutOfMemory` if memory runs out.
+    ///
+    /// ```
+    /// use dwarf_read::{ErrorKind, Table};
+    ///
+    /// let section = [1, 0x11, 0, 0, 0, 2, 0, 0, 0, 0];
+    /// let error = Table::read(&section, 0).unwrap_err();
+    /// assert_eq!(error.kind(), ErrorKind::AbbreviationTagZero);
+    /// let table = Table::read_before_error(&section, 0)?;
+    /// assert_eq!((table.len(), table.end()), (1, 5));
+    /// # Ok::<(), dwarf_read::Error>(())
+    /// ```
+    pub fn read_before_error(section: &[u8], offset: usize) -> Result<Table> {
+        let mut measure = sys::Measure::default();
+        // Without room, the call only measures the table, or what stands before its error.
+        match Table::default().fill(section, offset, sys::NO_ROOM, &mut measure) {
+            Ok(_) => Table::read(section, offset),
+            Err(error) if error == Error::OUT_OF_MEMORY => Err(error),
+            Err(_) => Table::read(&section[..measure.end], offset),
+        }
+    }
+
     /// Reads the table at an offset of `.debug_abbrev` in place of this one, into its memory, which
     /// it keeps and enlarges.
     ///

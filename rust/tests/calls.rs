@@ -75,6 +75,25 @@ fn an_error_leaves_a_table_as_it_was() {
 }
 
 #[test]
+fn what_stands_before_an_error_is_read() {
+    let (len, end) = (counting(700).len() - 1, counting(9).len());
+    // The code 1 comes a second time.
+    let repeated = [&counting(700)[..len], &counting(1)].concat();
+    for (section, offset, wanted) in [
+        (vec![1, 0x11, 7], 0, Ok((0, 0))),
+        (counting(9), end + 1, Err(0)),
+        (counting(9), usize::MAX, Err(0)),
+        (counting(9)[..end - 4].to_vec(), 0, Ok((8, counting(8).len() - 1))),
+        (counting(9), 0, Ok((9, end))),
+        (repeated, 0, Ok((700, len))),
+    ] {
+        let found = Table::read_before_error(&section, offset);
+        let found = found.map(|it| (it.len(), it.end())).map_err(|it| it.value());
+        assert_eq!(found, wanted, "{} {}", section.len(), offset);
+    }
+}
+
+#[test]
 fn tables_follow_each_other() {
     let pieces = [counting(2), vec![0], counting(700), counting(1), vec![1, 0x11, 0, 0, 0]];
     let section = pieces.concat();

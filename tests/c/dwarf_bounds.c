@@ -381,13 +381,13 @@ static const struct measure_row {
 } measures[] = {
     {0, 18, DWARF_OK, {2, 3, 18, 1}, 0},
     {0, 17, DWARF_OK, {2, 3, 17, 0}, 0},
-    {0, 16, DWARF_UNEXPECTED_EOF, {7, 7, 7, 7}, 16},
+    {0, 16, DWARF_UNEXPECTED_EOF, {1, 1, 8, 0}, 16},
     {17, 18, DWARF_OK, {0, 0, 18, 1}, 0},
     {18, 18, DWARF_OK, {0, 0, 18, 0}, 0},
     {19, 18, DWARF_UNEXPECTED_EOF, {7, 7, 7, 7}, 0},
     {SIZE_MAX, 18, DWARF_UNEXPECTED_EOF, {7, 7, 7, 7}, 0},
-    {1, 18, DWARF_ABBREVIATION_TAG_ZERO, {7, 7, 7, 7}, 0},
-    {3, 18, DWARF_INVALID_ABBREVIATION_CHILDREN, {7, 7, 7, 7}, 0x56},
+    {1, 18, DWARF_ABBREVIATION_TAG_ZERO, {0, 0, 1, 0}, 0},
+    {3, 18, DWARF_INVALID_ABBREVIATION_CHILDREN, {0, 0, 3, 0}, 0x56},
 };
 
 static bool is_measure(struct dwarf_measure it, struct dwarf_measure wanted) {
@@ -437,24 +437,25 @@ static void check_tables(void) {
 }
 
 /*
- * The codes of a table, a byte each, in their order; what reading it returns, and the code that is declared again; and
- * the codes that are read. Each declaration has its own code as the tag, and as many attributes.
+ * The codes of a table, a byte each, in their order; what reading it returns, and the code that is declared again; the
+ * codes that are read; and the measure. Each declaration has its own code as the tag, and as many attributes.
  */
 static const struct order_row {
     const char *codes;
     uint32_t status;
     uint64_t error;
     const char *in_order;
+    struct dwarf_measure measure;
 } orders[] = {
-    {"\1\2\3", DWARF_OK, 0, "\1\2\3"},
-    {"\2\5\6", DWARF_OK, 0, "\2\5\6"},
-    {"\3\2\1", DWARF_OK, 0, "\1\2\3"},
-    {"\1\3\2", DWARF_OK, 0, "\1\2\3"},
-    {"\2\5\1\6\3", DWARF_OK, 0, "\1\2\3\5\6"},
-    {"\1\1", DWARF_DUPLICATE_ABBREVIATION_CODE, 1, ""},
-    {"\2\4\4", DWARF_DUPLICATE_ABBREVIATION_CODE, 4, ""},
-    {"\2\4\2\4", DWARF_DUPLICATE_ABBREVIATION_CODE, 2, ""},
-    {"\2\4\3\4\2", DWARF_DUPLICATE_ABBREVIATION_CODE, 4, ""},
+    {"\1\2\3", DWARF_OK, 0, "\1\2\3", {3, 6, 28, 1}},
+    {"\2\5\6", DWARF_OK, 0, "\2\5\6", {3, 13, 42, 1}},
+    {"\3\2\1", DWARF_OK, 0, "\1\2\3", {3, 6, 28, 1}},
+    {"\1\3\2", DWARF_OK, 0, "\1\2\3", {3, 6, 28, 1}},
+    {"\2\5\1\6\3", DWARF_OK, 0, "\1\2\3\5\6", {5, 17, 60, 1}},
+    {"\1\1", DWARF_DUPLICATE_ABBREVIATION_CODE, 1, "", {1, 1, 7, 0}},
+    {"\2\4\4", DWARF_DUPLICATE_ABBREVIATION_CODE, 4, "", {2, 6, 22, 0}},
+    {"\2\4\2\4", DWARF_DUPLICATE_ABBREVIATION_CODE, 2, "", {2, 6, 22, 0}},
+    {"\2\4\3\4\2", DWARF_DUPLICATE_ABBREVIATION_CODE, 4, "", {3, 9, 33, 0}},
 };
 
 /* Writes the table with these codes, and returns its end. */
@@ -493,8 +494,7 @@ static void check_orders(void) {
                 check(is_attribute(its[first], wanted_attribute), "an attribute in order");
             }
         }
-        struct dwarf_measure whole = {strlen(orders[i].in_order), first, len, 1};
-        check(status != DWARF_OK || is_measure(measure, whole), "a table in some order");
+        check(is_measure(measure, orders[i].measure), "the measure of codes in some order");
     }
 }
 
@@ -530,12 +530,16 @@ static void check_loaded(void) {
         dwarf_table_free(&loaded);
         check(loaded.abbreviations == NULL && loaded.measure.abbreviations == 0, "a freed table");
     }
+    static const struct dwarf_measure before = {0, 0, 8, 0}, first = {1, 1, 8, 0};
     struct dwarf_fault fault = {7, 7};
     struct dwarf_table loaded;
     memset(&loaded, 7, sizeof loaded);
     check(dwarf_table_load(table, 16, 0, &loaded, &fault) == DWARF_UNEXPECTED_EOF, "a table that is cut");
     check(is_fault(fault, DWARF_UNEXPECTED_EOF, 16) && loaded.abbreviations == NULL, "its error");
-    check(loaded.attributes == NULL && loaded.measure.abbreviations == 0, "what it has");
+    check(loaded.attributes == NULL && is_measure(loaded.measure, before), "what it has");
+    check(dwarf_table_load(table, loaded.measure.end, 0, &loaded, &fault) == DWARF_OK, "what stands before the error");
+    check(is_measure(loaded.measure, first) && loaded.abbreviations[0].code == 2, "the abbreviation before it");
+    dwarf_table_free(&loaded);
     check(dwarf_table_load(NULL, 0, 1, &loaded, &fault) == DWARF_UNEXPECTED_EOF, "a table past the end");
     check(is_fault(fault, DWARF_UNEXPECTED_EOF, 0) && loaded.measure.end == 0, "its error");
 }

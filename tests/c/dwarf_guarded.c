@@ -265,13 +265,32 @@ static uint32_t call_table_read(const uint8_t *bytes, size_t len, size_t offset,
     return status;
 }
 
+/* Reads what stands before an error of a table: the section that is cut there has as many abbreviations, and no error. */
+static void call_before(const uint8_t *bytes, size_t offset, struct dwarf_measure before, size_t loading_end) {
+    struct dwarf_table loaded;
+    if (loading_end != before.end || before.closed_by_null != 0) {
+        die("the place of an error isn't that of dwarf_table_measure");
+    }
+    begin("dwarf_table_load of what stands before an error");
+    uint32_t status = dwarf_table_load(bytes, before.end, offset, &loaded, fault());
+    end();
+    struct dwarf_measure it = loaded.measure;
+    bool is_same = it.abbreviations == before.abbreviations && it.attributes == before.attributes &&
+                   it.end == before.end && it.closed_by_null == 0;
+    if (status != DWARF_OK || !is_same) {
+        die("another table stands before an error");
+    }
+    dwarf_table_free(&loaded);
+}
+
 static void call_tables(const uint8_t *bytes, size_t len, size_t offset) {
     begin("dwarf_table_measure");
     struct dwarf_measure *measure = (struct dwarf_measure *)output(sizeof *measure);
     uint32_t status = dwarf_table_measure(bytes, len, offset, measure, fault());
+    struct dwarf_measure measured = *measure;
     end();
-    size_t count = status == DWARF_OK ? measure->abbreviations : 1;
-    size_t attributes = status == DWARF_OK ? measure->attributes : 1;
+    size_t count = status == DWARF_OK ? measured.abbreviations : 1;
+    size_t attributes = status == DWARF_OK ? measured.attributes : 1;
     call_table_read(bytes, len, offset, count, attributes);
     call_table_read(bytes, len, offset, count + 1, attributes + 1);
     call_table_read(bytes, len, offset, count - (count != 0), attributes);
@@ -284,11 +303,15 @@ static void call_tables(const uint8_t *bytes, size_t len, size_t offset) {
     struct dwarf_table loaded;
     begin("dwarf_table_load");
     uint32_t loading = dwarf_table_load(bytes, len, offset, &loaded, fault());
+    size_t loading_end = loaded.measure.end;
     end();
     if (loading != status || loaded.measure.abbreviations != (status == DWARF_OK ? count : 0)) {
         die("its status or its measure isn't that of dwarf_table_measure");
     }
     dwarf_table_free(&loaded);
+    if (status != DWARF_OK && offset <= len) {
+        call_before(bytes, offset, measured, loading_end);
+    }
 }
 
 /*

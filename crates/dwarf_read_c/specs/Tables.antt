@@ -3,7 +3,7 @@ use Rattle.std.specs.Prelude.{◌≡◌, ℕ, ◌+◌, ◌<◌, ◌⊎◌, List,
 use Rattle.std.specs.FinMap.{len, values}
 use Rattle.std.specs.List.{flat_map}
 use Rattle.dwarf_read_core.specs.Input.{Input}
-use Rattle.dwarf_read_core.specs.Answer.{TableEndsAt}
+use Rattle.dwarf_read_core.specs.Answer.{DeclarationsEndAt, TableEndsAt}
 use Rattle.dwarf_read_core.specs.Grammar.{Declaration, Specification, Table, attribute_count, is_by_null}
 use Rattle.dwarf_read_c.specs.declared.rows.DwarfAbbreviation.{DwarfAbbreviation}
 use Rattle.dwarf_read_c.specs.declared.rows.DwarfAttributeSpec.{DwarfAttributeSpec}
@@ -26,6 +26,10 @@ measure_of t end = record {
 -- the measure of the table at an offset of a section
 abbrev pub Measures : DwarfMeasure → Input → ℕ → Table → Type 0
 Measures m section offset t = (end : ℕ) × TableEndsAt section offset t end × (m ≡ measure_of t end)
+
+-- the measure of the declarations there before an error
+abbrev pub MeasuresBefore : DwarfMeasure → Input → ℕ → Table → Type 0
+MeasuresBefore m section offset t = (end : ℕ) × DeclarationsEndAt section offset t end × (m ≡ measure_of t end)
 
 -- a specification; one without a value has the value 0
 abbrev pub attribute_of : Specification → DwarfAttributeSpec

@@ -98,6 +98,8 @@ impl AbbreviationSink for TableRows {
         }
     }
 
+    // Tables are read in two places, and only those that have an error in the second.
+    #[inline(always)]
     fn declare(&mut self, declaration: &AbbreviationDeclaration<'_>) -> Result<()> {
         make_room(&mut self.rows, &mut self.attributes)?;
         let (code, attributes) = (declaration.code(), declaration.attributes());

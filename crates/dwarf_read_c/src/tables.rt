@@ -1,24 +1,28 @@
 //! Abbreviation tables (DWARF 5, 7.5.3).
 
-ghost use Rattle.std.specs.Prelude.{◌≡◌, ◌≢◌, ◌≤◌, ◌<◌, ◌^◌, ◌-◌, ◌/◌, false, Ok, Err, length, map, IfOk, IfErr, IsErrOf};
+ghost use Rattle.std.specs.Prelude.{◌≡◌, ◌≢◌, ◌≤◌, ◌<◌, ◌^◌, ◌-◌, ◌/◌, false, Ok, Err, length, map, IfOk, IfErr, IsErrOf, OnOk, ◌⊎◌};
 ghost use Rattle.std.specs.FinMap as finite;
-ghost use Rattle.dwarf_read_core.specs.Answer.{Answer, Answers, FitsIn, TableEndsAt, TakesNoMemory};
+ghost use Rattle.dwarf_read_core.specs.Answer.{Answer, Answers, DeclarationsEndAt, FitsIn, TableEndsAt, TakesNoMemory};
 ghost use Rattle.dwarf_fault.specs.Fault.{error_number};
 ghost use Rattle.dwarf_read_core.specs.Grammar.{Table, attribute_count};
 ghost use Rattle.dwarf_read_c.specs.Fault.{Rejects};
 ghost use Rattle.dwarf_read_c.specs.Room.{Fills};
 ghost use Rattle.dwarf_read_c.specs.Sections.{section_of};
-ghost use Rattle.dwarf_read_c.specs.Tables.{LacksRoom, Measures, abbreviations_of, attributes_of, measure_of};
+ghost use Rattle.dwarf_read_c.specs.Tables.{LacksRoom, Measures, MeasuresBefore, abbreviations_of, attributes_of, measure_of};
 
 use crate::rows::{DwarfAbbreviation, DwarfAttributeSpec, DwarfMeasure};
 use crate::status::{DWARF_NO_ROOM, DWARF_OK};
 use crate::table_rows::TableRows;
 use dwarf_fault::{DwarfFault, reject};
-use dwarf_read_core::{DebugAbbrev, DebugAbbrevOffset, Error, LittleEndian};
+use dwarf_read_core::{DebugAbbrev, DebugAbbrevOffset, Error, LittleEndian, RunTimeEndian};
 use std::alloc::Global;
 
 /// Measures the table at `offset` of `.debug_abbrev`: how many abbreviations and attributes it has,
 /// where it ends, and what closes it.
+///
+/// With an error, `measure` is that of the abbreviations before it: how many they are, how many
+/// attributes they have, and the offset at which the one with the error begins. It is left unchanged
+/// if `offset` is past the section's end, or if memory runs out.
 ///
 /// # Errors
 ///
@@ -50,7 +54,12 @@ pub extern "C" fn dwarf_table_measure_0_3(
     // A table without declarations needs no memory.
     ensures memory { TakesNoMemory (section_of section.now false) offset
         → result ≢ error_number Error.OutOfMemory }
-    ensures no_measure { result ≢ DWARF_OK → measure.new ≡ measure.old }
+    ensures before { let s = section_of section.now false in
+        result ≢ DWARF_OK → result ≢ error_number Error.OutOfMemory → offset ≤ length section.now
+        → (t : Table) × MeasuresBefore measure.new s offset t }
+    ensures no_measure { result ≢ DWARF_OK
+        → (result ≡ error_number Error.OutOfMemory) ⊎ (length section.now < offset)
+        → measure.new ≡ measure.old }
     ensures no_fault { result ≡ DWARF_OK → fault.new ≡ fault.old }
 {
     match table_at(mem, section, offset) {
@@ -58,13 +67,13 @@ pub extern "C" fn dwarf_table_measure_0_3(
             *measure = table.measure(end);
             DWARF_OK
         }
-        Err(error) => reject(error, fault),
+        Err(error) => reject_table(mem, section, offset, error, measure, fault),
     }
 }
 
 /// Reads the table at `offset` of `.debug_abbrev`: its abbreviations in the order of their codes,
 /// and the attributes of all of them in the same order. `measure` is what [`dwarf_table_measure_0_3`]
-/// writes. Elements after them are left unchanged.
+/// writes, with an error, too. Elements after them are left unchanged.
 ///
 /// If an array is too short, only `measure` is written, and the call returns `DWARF_NO_ROOM`. It
 /// doesn't if there is room for an abbreviation for every five bytes from `offset` on, and for an
@@ -97,17 +106,24 @@ pub extern "C" fn dwarf_table_read_0_3(
         → result ≢ DWARF_NO_ROOM }
     ensures rejected { let s = section_of section.now false in
         result ≢ DWARF_OK → result ≢ DWARF_NO_ROOM
-        → Rejects (λ e. Answers (Err e) s offset) result fault.new × (measure.new ≡ measure.old) }
+        → Rejects (λ e. Answers (Err e) s offset) result fault.new }
+    ensures before { let s = section_of section.now false in result ≢ DWARF_OK
+        → result ≢ DWARF_NO_ROOM → result ≢ error_number Error.OutOfMemory
+        → offset ≤ length section.now → (t : Table) × MeasuresBefore measure.new s offset t }
+    ensures no_measure { result ≢ DWARF_OK → result ≢ DWARF_NO_ROOM
+        → (result ≡ error_number Error.OutOfMemory) ⊎ (length section.now < offset)
+        → measure.new ≡ measure.old }
     ensures memory { TakesNoMemory (section_of section.now false) offset
         → result ≢ error_number Error.OutOfMemory }
     ensures no_items { result ≢ DWARF_OK
         → (abbreviations.new ≡ abbreviations.old) × (attributes.new ≡ attributes.old) }
     ensures no_fault { result ≡ DWARF_OK → fault.new ≡ fault.old }
 {
-    match table_at(mem, section, offset) {
-        Ok((table, end)) => put_table(&table, end, abbreviations, attributes, measure),
-        Err(error) => reject(error, fault),
-    }
+    let (table, end) = match table_at(mem, section, offset) {
+        Ok(found) => found,
+        Err(error) => return reject_table(mem, section, offset, error, measure, fault),
+    };
+    put_table(&table, end, abbreviations, attributes, measure)
 }
 
 // Returns the table at an offset, and where it ends.
@@ -121,6 +137,66 @@ fn table_at(mem: Global, section: &[u8], offset: usize) -> Result<(TableRows, us
 {
     let section = DebugAbbrev::new(section, LittleEndian);
     let (table, end) = section.abbreviations_into(mem, DebugAbbrevOffset(offset))?;
+    Ok((table, end.0))
+}
+
+// Writes the error of a table, and the measure of the abbreviations before it. It is out of line, since
+// it reads them once more.
+#[inline(never)]
+#[tactic(auto, using(crate::proofs::KnownErrors::known_table, crate::proofs::KnownErrors::memory_number))]
+fn reject_table(
+    mem: Global,
+    section: &[u8],
+    offset: usize,
+    error: Error,
+    measure: &mut DwarfMeasure,
+    fault: &mut DwarfFault,
+) -> u32
+    requires error { Answers (Err error) (section_of section.now false) offset }
+    requires memory { TakesNoMemory (section_of section.now false) offset
+        → error ≢ Error.OutOfMemory }
+    ensures nonzero { 0 < result }
+    ensures rejected { let s = section_of section.now false in
+        Rejects (λ e. Answers (Err e) s offset) result fault.new }
+    ensures before { let s = section_of section.now false in
+        result ≢ error_number Error.OutOfMemory → offset ≤ length section.now
+        → (t : Table) × MeasuresBefore measure.new s offset t }
+    ensures no_measure { (result ≡ error_number Error.OutOfMemory) ⊎ (length section.now < offset)
+        → measure.new ≡ measure.old }
+    ensures memory { TakesNoMemory (section_of section.now false) offset
+        → result ≢ error_number Error.OutOfMemory }
+{
+    if let Error::OutOfMemory = error {
+        return reject(Error::OutOfMemory, fault);
+    }
+    match table_before(mem, section, offset, &error) {
+        Ok((before, end)) => {
+            *measure = before.measure(end);
+            reject(error, fault)
+        }
+        Err(error) => reject(error, fault),
+    }
+}
+
+// Returns the abbreviations before an error of the table at an offset, and where they end. The reader
+// is of another type than that of `table_at`, for which the compiler then inlines the parser.
+fn table_before(
+    mem: Global,
+    section: &[u8],
+    offset: usize,
+    error: &Error,
+) -> Result<(TableRows, usize), Error>
+    ensures end { let s = section_of section.now false in
+        IfOk result (λ r. DeclarationsEndAt s offset r.0 r.1) }
+    ensures within { OnOk result (offset ≤ length section.now) }
+    ensures err { IfErr result (λ e. Answers (Err e) (section_of section.now false) offset) }
+    ensures other { IfErr result (λ e. e ≢ Error.OutOfMemory → offset ≤ length section.now
+        → error.now ≢ e) }
+    ensures memory { TakesNoMemory (section_of section.now false) offset
+        → IsErrOf result Error.OutOfMemory → ⊥ }
+{
+    let section = DebugAbbrev::new(section, RunTimeEndian::Little);
+    let (table, end) = section.abbreviations_before(mem, DebugAbbrevOffset(offset), error)?;
     Ok((table, end.0))
 }
 

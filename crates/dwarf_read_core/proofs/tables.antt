@@ -8,6 +8,7 @@ pub mod ReadingIsComplete
 pub mod ReadingTables
 pub mod CodesOnce
 pub mod TablesAreRead
+pub mod FirstDeclarations
 pub mod ExactlyOneAnswer
 pub mod AppendedBytes
 pub mod ByteOrders
@@ -17,6 +18,7 @@ pub mod StrictAnswers
 pub mod TableEnds
 pub mod TableBounds
 pub mod TableFronts
+pub mod DeclarationFronts
 pub mod VectorAndMap
 pub mod OthersByCode
 pub mod EqualDeclarations

@@ -1,5 +1,5 @@
 -- The one result that a section has at an offset: the table there, or the first error.
-use Rattle.std.specs.Prelude.{◌≡◌, ◌≢◌, ℕ, ◌+◌, ◌*◌, ◌<◌, ◌≤◌, ◌⊎◌, Bool, true, List, [], ◌∷◌, ◌++◌, length, drop, Result, Ok, Err, IsErrOf, ⊤, if◌then◌else◌}
+use Rattle.std.specs.Prelude.{◌≡◌, ◌≢◌, ℕ, ◌+◌, ◌*◌, ◌<◌, ◌≤◌, ◌⊎◌, Bool, true, List, [], ◌∷◌, ◌++◌, length, drop, Result, Ok, Err, IsErrOf, IsTrue, ⊤, if◌then◌else◌}
 use Rattle.std.specs.FinMap as finite
 use Rattle.std.specs.List.{Any}
 use Rattle.dwarf_base_core.specs.declared.error.Error.{Error}
@@ -8,7 +8,7 @@ use Rattle.dwarf_reader_core.specs.Leb128.{Kind, unsigned64, unsigned16, signed6
 use Rattle.dwarf_reader_core.specs.Faults.{eof}
 use Rattle.dwarf_reader_core.specs.Input.{Input, end_of}
 use Rattle.dwarf_reader_core.specs.Appended.{IsNotEof}
-use Rattle.dwarf_read_core.specs.Grammar.{Declaration, implicit_const, Table, by_null, is_by_null, attribute_count, IsCode, IsHead, IsFront, IsDeclaration, AreDeclarations, IsTable, IsTableBefore}
+use Rattle.dwarf_read_core.specs.Grammar.{ByCode, Declaration, implicit_const, Table, by_code_of, by_end, by_null, is_by_null, attribute_count, IsCode, IsHead, IsFront, IsDeclaration, AreDeclarations, IsTable, IsTableBefore}
 use Rattle.dwarf_read_core.specs.Lookups.{UnlessOutOfMemory}
 
 -- the beginning of a declaration, up to a number of this kind
@@ -72,6 +72,26 @@ pub data IsTableError : Error → Type 0 where
 abbrev pub TableEndsAt : Input → ℕ → Table → ℕ → Type 0
 TableEndsAt section offset t end =
     (rest : List ℕ) × IsTableBefore (drop offset section.bytes) t rest × (end + length rest ≡ length section.bytes)
+
+-- declarations at the front of bytes, by their codes, and the bytes after them
+pub record BeginsWith (bytes : List ℕ) (t : ByCode) (rest : List ℕ) : Type 0 where
+  pub front : List ℕ
+  pub declarations : List Declaration
+  pub parts : bytes ≡ front ++ rest
+  pub are : AreDeclarations front declarations
+  pub by_code : t ≡ by_code_of declarations
+
+-- as many of them as there are: a declaration that follows has the code of another
+pub record BeginsWithAll (bytes : List ℕ) (t : ByCode) (rest : List ℕ) : Type 0 where
+  pub begins : BeginsWith bytes t rest
+  pub last : (declaration others : List ℕ) (d : Declaration) → rest ≡ declaration ++ others
+      → IsDeclaration declaration d → IsTrue (finite.contains_key t d.code)
+
+-- the declarations at the first offset, as many as there are, end at the second one; an error of their table lies there
+abbrev pub DeclarationsEndAt : Input → ℕ → Table → ℕ → Type 0
+DeclarationsEndAt section offset t end =
+    (rest : List ℕ) × BeginsWithAll (drop offset section.bytes) t.by_code rest × (t.close ≡ by_end)
+    × (end + length rest ≡ length section.bytes)
 
 -- what a call returned is the section's result at the offset, unless memory ran out
 abbrev pub Answers : Result Table Error → Input → ℕ → Type 0

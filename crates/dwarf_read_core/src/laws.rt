@@ -9,7 +9,7 @@ ghost use Rattle.dwarf_base_core.specs.declared.error.Error.{Error};
 ghost use Rattle.dwarf_code_core.specs.DwChildren.{children_names};
 ghost use Rattle.dwarf_const_core.specs.DwForm.{form_names};
 ghost use Rattle.dwarf_const_core.specs.Names.{name_of};
-ghost use Rattle.dwarf_reader_core.specs.Input.{Input, after, end_of};
+ghost use Rattle.dwarf_reader_core.specs.Input.{Input, after, end_of, first};
 ghost use Rattle.dwarf_base_core.specs.Format.{initial_length_size};
 ghost use Rattle.dwarf_base_core.specs.Number.{number_of};
 ghost use Rattle.dwarf_base_core.specs.declared.common.Format.{Format};
@@ -18,7 +18,7 @@ ghost use Rattle.dwarf_reader_core.specs.InitialLength.{HasLength};
 ghost use Rattle.dwarf_reader_core.specs.Once.{HasOne};
 ghost use Rattle.dwarf_reader_core.specs.Readings.{IsDecided, NumberRead, WordRead};
 ghost use Rattle.dwarf_reader_core.specs.Appended.{followed_by, IsNotEof, IsShortestFront};
-ghost use Rattle.dwarf_read_core.specs.Answer.{Answer, IsFinal, IsStrictlyFinal, IsTableError, StrictAnswer, TableEndsAt, unterminated};
+ghost use Rattle.dwarf_read_core.specs.Answer.{Answer, DeclarationsEndAt, IsFinal, IsStrictlyFinal, IsTableError, StrictAnswer, TableEndsAt, unterminated};
 ghost use Rattle.dwarf_read_core.specs.Cache.{KeepsAnswers, NamesOffsets, least_count};
 ghost use Rattle.dwarf_read_core.specs.declared.read.abbrev.cache.AbbreviationsCacheStrategy.{AbbreviationsCacheStrategy};
 ghost use Rattle.dwarf_read_core.specs.declared.read.abbrev.cache.AbbreviationsCacheStrategy.TheVariants.{Duplicates, All as AllOffsets};
@@ -105,6 +105,21 @@ pub fn exactly_one_end()
     ensures front { (section : Input) (offset end : ℕ) (t : Table) → Answer section offset (Ok t)
         → TableEndsAt section offset t end
         ↔ IsShortestFront (λ front. Answer front offset (Ok t)) section end }
+{}
+
+/// The declarations at an offset before the first that can't follow are the same for everybody, and
+/// end at one offset. The section that is cut there has their table. Where the section has an error,
+/// it has another declaration there, which begins before the section's end.
+pub fn declarations_end_at_one_offset()
+    ensures one { (section : Input) (offset end other : ℕ) (t u : Table)
+        → DeclarationsEndAt section offset t end → DeclarationsEndAt section offset u other
+        → (u ≡ t) × (other ≡ end) }
+    ensures front { (section : Input) (offset end : ℕ) (t : Table)
+        → offset ≤ length section.bytes → DeclarationsEndAt section offset t end
+        → Answer (first end section) offset (Ok t) }
+    ensures error { (section : Input) (offset end : ℕ) (t : Table)
+        → offset ≤ length section.bytes → DeclarationsEndAt section offset t end
+        → (e : Error) → Answer section offset (Err e) → end < length section.bytes }
 {}
 
 /// A strategy, a section and offsets determine what a cache keeps: at each offset its one result,

@@ -1,5 +1,6 @@
 -- A whole table that is read, or its first error, is what the grammar says, and conversely.
 use Rattle.dwarf_read_core.proofs.Common.{◌≡◌, ◌≢◌, ℕ, zero, suc, ◌<◌, ◌≤◌, false, List, [], ◌∷◌, ◌++◌, length, Option, Some, None, Ok, Err, refl, sym, ap, ◌∙◌, append_assoc, arith, append-nil, length-append, empty, insert, contains_key, Error, DuplicateAbbreviationCode, Declaration, Sequence, IsDeclaration, AllPairs, AreDeclarations, ByCode, Table, closed, by_code_of, IsTable, IsTableBefore, closed_by_null, closed_by_end, IsFirstError, in_declaration, repeated, close_of, by_null, by_end, and_declared, table_at, table_in, HasOutcome, returned, failed, outcome-bind, outcome-cond, outcome-map, outcome-ok, declaration_at}
+use Rattle.dwarf_read_core.specs.Answer.{BeginsWith}
 use Rattle.dwarf_read_core.proofs.tables.ReadingNumbers.{encoding-begins, encoding-nonempty}
 use Rattle.dwarf_read_core.proofs.tables.ReadingAttributes.{Sequence-push}
 use Rattle.dwarf_read_core.proofs.tables.ReadingIsSound.{DeclarationFound, EndFound, at_end, at_zero, EntryFound, declaration_outcome, declaration_found_shorter}
@@ -8,14 +9,6 @@ use Rattle.dwarf_read_core.proofs.tables.ReadingTables.{closed-by_null, table_fa
 use Rattle.dwarf_read_core.proofs.tables.CodesOnce.{repeated_code, declared_from_key, table_push, distinct_push, distinct_front}
 
 -- ---- what is read is in the grammar
-
--- declarations at the front of bytes, by their codes, and the bytes after them
-pub record BeginsWith (bytes : List ℕ) (t : ByCode) (rest : List ℕ) : Type 0 where
-  pub front : List ℕ
-  pub declarations : List Declaration
-  pub parts : bytes ≡ front ++ rest
-  pub are : AreDeclarations front declarations
-  pub by_code : t ≡ by_code_of declarations
 
 -- any bytes begin with no declarations
 pub begins_with_none : (bytes : List ℕ) → BeginsWith bytes empty bytes

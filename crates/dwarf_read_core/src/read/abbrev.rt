@@ -4,15 +4,16 @@
 //! attributes. The unit's table of abbreviations says what a code means: the tag of the entry,
 //! whether it has children, and which attributes follow in which forms.
 
-ghost use Rattle.std.specs.Prelude.{◌≡◌, ℕ, List, Ok, Err, IfOk, IfErr};
+ghost use Rattle.std.specs.Prelude.{◌≡◌, ◌≢◌, ◌≤◌, ℕ, List, Ok, Err, IfOk, IfErr, OnOk, length};
 ghost use Rattle.std.specs.Fn.{CalledAt, TakesAt};
 ghost use Rattle.dwarf_base_core.specs.declared.common.SectionId.TheVariants.{DebugAbbrev as debug_abbrev};
 ghost use Rattle.dwarf_reader_core.specs.Appended.{followed_by};
 ghost use Rattle.dwarf_reader_core.specs.Input.{end_of};
 ghost use Rattle.dwarf_reader_core.specs.Slice.{input_of};
-ghost use Rattle.dwarf_read_core.specs.Answer.{Answer, Answers, AnswersStrictly, FitsIn, IsFinal, IsStrictlyFinal, SparesMemory, TableEndsAt};
+ghost use Rattle.dwarf_read_core.specs.Answer.{Answer, Answers, AnswersStrictly, DeclarationsEndAt, FitsIn, IsFinal, IsStrictlyFinal, SparesMemory, TableEndsAt};
 
 use super::section::Section;
+use before::parse_before;
 use dwarf_base_core::{
     DebugAbbrevOffset, Endianity, Error, ReaderOffset, ReaderOffsetId, Result, SectionId,
 };
@@ -22,6 +23,7 @@ use std::alloc::Global;
 
 mod abbreviation;
 mod attribute;
+mod before;
 mod cache;
 mod collector;
 mod others;
@@ -190,6 +192,45 @@ impl<R: Reader> DebugAbbrev<R> {
         let mut input = input;
         let table: T = parse(mem, &mut input)?;
         Ok((table, DebugAbbrevOffset(len - input.len())))
+    }
+
+    /// Returns the abbreviations before the first error of the table at `offset`, and the offset, in
+    /// bytes from the section's start, at which the declaration with the error begins.
+    ///
+    /// `error` is what [`abbreviations`](Self::abbreviations) returned for this offset. With this
+    /// call, a program can say where a table breaks, and go on with what stands before. It reads these
+    /// abbreviations once more. If there is no error, it returns all of them, and the offset of the
+    /// code of value 0, or of the section's end.
+    ///
+    /// # Errors
+    ///
+    /// - `UnexpectedEof` at the section's start if `offset` is past its end.
+    /// - `DuplicateAbbreviationCode` if that is the table's error, and `error` is another one.
+    /// - `OutOfMemory` if memory for the table, or for a clone of the reader, runs out.
+    pub fn abbreviations_before<T: AbbreviationSink>(
+        &self,
+        mem: Global,
+        offset: DebugAbbrevOffset<R::Offset>,
+        error: &Error,
+    ) -> Result<(T, DebugAbbrevOffset<R::Offset>)>
+        ensures end { let section = R.view (debug_abbrev_reader self.now) in
+            IfOk result (λ r. DeclarationsEndAt section (R.Offset.value offset.0)
+            (T.table r.0) (R.Offset.value r.1.0)) }
+        ensures within { let section = R.view (debug_abbrev_reader self.now) in
+            OnOk result (R.Offset.value offset.0 ≤ length section.bytes) }
+        ensures err { let section = R.view (debug_abbrev_reader self.now) in
+            IfErr result (λ e. Answers (Err e) section (R.Offset.value offset.0)) }
+        ensures other { let section = R.view (debug_abbrev_reader self.now) in
+            IfErr result (λ e. e ≢ Error.OutOfMemory
+            → R.Offset.value offset.0 ≤ length section.bytes → error.now ≢ e) }
+        ensures memory { let section = R.view (debug_abbrev_reader self.now) in
+            SparesMemory R.clone_is_free section (R.Offset.value offset.0) result }
+    {
+        let mut input = self.debug_abbrev_section.try_clone()?;
+        let len = input.len();
+        input.skip(offset.0)?;
+        let (table, left) = parse_before(mem, &mut input, error)?;
+        Ok((table, DebugAbbrevOffset(len - left)))
     }
 
     /// Returns the table of abbreviations at `offset`, which a code of value 0 has to close.

@@ -149,48 +149,94 @@ fn strict_tables_are_closed_and_others_end(rt: HostRuntime) {
     }
 }
 
-// The first position, bytes, an offset, and the first error there.
+// Declarations before an error, and the offset at which they end.
+type Before = (&'static [(u64, Declaration)], usize);
+
+// The first position, bytes, an offset, and the first error there; and what the bytes have before it: the declarations
+// before the one with the error, and the offset at which that one begins.
 #[rattlefmt::skip]
-static ERRORS: &[(u8, &[u8], usize, Error)] = &[
+static ERRORS: &[(u8, &[u8], usize, Error, Result<Before>)] = &[
     // The section ends within a declaration, or the offset is past its end.
-    (0, b"\x80", 0, eof!(1)),
-    (0, b"\x01", 0, eof!(1)),
-    (0, b"\x01\x11", 0, eof!(2)),
-    (0, b"\x01\x11\0\0", 0, eof!(4)),
-    (0, b"\x01\x11\0\x03", 0, eof!(4)),
-    (0, b"\x01\x11\0\0\x80", 0, eof!(5)),
-    (0, b"\x01\x2e\0\x03\x21", 0, eof!(5)),
-    (0, b"\x01\x11\0\0\0\x01\x11\0\0", 0, eof!(9)),
-    (100, b"\x80", 0, eof!(101)),
-    (100, b"\x01\x11\0\0\0\x01", 0, eof!(106)),
-    (100, ENDED, 6, eof!(100)),
+    (0, b"\x80", 0, eof!(1), Ok((&[], 0))),
+    (0, b"\x01", 0, eof!(1), Ok((&[], 0))),
+    (0, b"\x01\x11", 0, eof!(2), Ok((&[], 0))),
+    (0, b"\x01\x11\0\0", 0, eof!(4), Ok((&[], 0))),
+    (0, b"\x01\x11\0\x03", 0, eof!(4), Ok((&[], 0))),
+    (0, b"\x01\x11\0\0\x80", 0, eof!(5), Ok((&[], 0))),
+    (0, b"\x01\x2e\0\x03\x21", 0, eof!(5), Ok((&[], 0))),
+    (0, b"\x01\x11\0\0\0\x01\x11\0\0", 0, eof!(9), Ok((&[(1, BARE)], 5))),
+    (100, b"\x80", 0, eof!(101), Ok((&[], 0))),
+    (100, b"\x01\x11\0\0\0\x01", 0, eof!(106), Ok((&[(1, BARE)], 5))),
+    (100, ENDED, 6, eof!(100), Err(eof!(100))),
     // A number is out of range, or longer than it may be.
-    (0, b"\x80\x80\x80\x80\x80\x80\x80\x80\x80\x02", 0, BadUnsignedLeb128),
-    (0, b"\x01\x91\x80\x80\0", 0, BadUnsignedLeb128),
-    (0, b"\x01\x80\x80\x80", 0, BadUnsignedLeb128),
-    (0, b"\x01\x2e\0\x03\x21\x80\x80\x80\x80\x80\x80\x80\x80\x80\x01\0\0\0", 0, BadSignedLeb128),
+    (0, b"\x80\x80\x80\x80\x80\x80\x80\x80\x80\x02", 0, BadUnsignedLeb128, Ok((&[], 0))),
+    (0, b"\x01\x91\x80\x80\0", 0, BadUnsignedLeb128, Ok((&[], 0))),
+    (0, b"\x01\x80\x80\x80", 0, BadUnsignedLeb128, Ok((&[], 0))),
+    (0, b"\x02\x11\0\0\0\x01\x2e\0\x03\x21\x80\x80\x80\x80\x80\x80\x80\x80\x80\x01\0\0\0", 0,
+        BadSignedLeb128, Ok((&[(2, BARE)], 5))),
     // A field has a value that it may not have.
-    (0, b"\x01\0\x02", 0, AbbreviationTagZero),
-    (0, b"\x01\x11\0\0\0\x02\0", 0, AbbreviationTagZero),
-    (0, b"\x01\x11\x02", 0, InvalidAbbreviationChildren(DwChildren(2))),
-    (100, b"\0\x01\x11\x02", 1, InvalidAbbreviationChildren(DwChildren(2))),
-    (0, b"\x01\x11\0\0\x01", 0, AttributeNameZero),
-    (0, b"\x01\x11\0\0\x21", 0, AttributeNameZero),
-    (0, b"\x01\x11\0\x01\0", 0, AttributeFormZero),
+    (0, b"\x01\0\x02", 0, AbbreviationTagZero, Ok((&[], 0))),
+    (0, b"\x01\x11\0\0\0\x02\0", 0, AbbreviationTagZero, Ok((&[(1, BARE)], 5))),
+    (0, b"\x01\x11\x02", 0, InvalidAbbreviationChildren(DwChildren(2)), Ok((&[], 0))),
+    (100, b"\0\x01\x11\x02", 1, InvalidAbbreviationChildren(DwChildren(2)), Ok((&[], 1))),
+    (0, b"\x01\x11\0\0\x01", 0, AttributeNameZero, Ok((&[], 0))),
+    (0, b"\x02\x11\0\0\0\x01\x11\0\0\x21", 0, AttributeNameZero, Ok((&[(2, BARE)], 5))),
+    (0, b"\x01\x11\0\x01\0", 0, AttributeFormZero, Ok((&[], 0))),
     // A code occurs twice. An error inside of the second declaration comes first.
-    (0, b"\x01\x11\0\0\0\x81\0\x11\0\0\0", 0, DuplicateAbbreviationCode(1)),
+    (0, b"\x01\x11\0\0\0\x81\0\x11\0\0\0", 0, DuplicateAbbreviationCode(1), Ok((&[(1, BARE)], 5))),
     (0, b"\x01\x11\0\0\0\x03\x11\0\0\0\x02\x11\0\0\0\x03\x11\0\0\0\0", 0,
-        DuplicateAbbreviationCode(3)),
-    (0, SAME_CODES, 4, DuplicateAbbreviationCode(1)),
-    (0, b"\x01\x11\0\0\0\x01\0", 0, AbbreviationTagZero),
-    (0, b"\x02\x11\0\0\0\x02\x11\x02", 0, InvalidAbbreviationChildren(DwChildren(2))),
+        DuplicateAbbreviationCode(3), Ok((&[(1, BARE), (2, BARE), (3, BARE)], 15))),
+    (0, SAME_CODES, 4, DuplicateAbbreviationCode(1),
+        Ok((&[(1, (DW_TAG_subprogram, false, &[NAME]))], 11))),
+    (0, b"\x01\x11\0\0\0\x01\0", 0, AbbreviationTagZero, Ok((&[(1, BARE)], 5))),
+    (0, b"\x02\x11\0\0\0\x02\x11\x02", 0, InvalidAbbreviationChildren(DwChildren(2)),
+        Ok((&[(2, BARE)], 5))),
 ];
 
 #[test]
 fn first_errors_have_positions(rt: HostRuntime) {
-    for (first, bytes, offset, wanted) in ERRORS {
+    for (first, bytes, offset, wanted, before) in ERRORS {
         let error = table_at(rt.alloc(), *first, bytes, *offset).err();
         same(&rt, error, Some(*wanted), bytes);
+        check_before(&rt, rt.alloc(), (*first, bytes, *offset, wanted), *before);
+    }
+}
+
+// Ends the test where other declarations are before an error, or that is in one at another offset.
+fn check_before(
+    rt: &impl Abort,
+    mem: Global,
+    (first, bytes, offset, error): (u8, &[u8], usize, &Error),
+    wanted: Result<Before>,
+) {
+    let section = DebugAbbrev::from(reader_at(bytes, LittleEndian, first));
+    let found = section.abbreviations_before::<Abbreviations>(
+        mem,
+        DebugAbbrevOffset(offset),
+        error,
+    );
+    match (found, wanted) {
+        (Ok((table, end)), Ok((declarations, wanted_end))) => {
+            same(rt, is_table(&table, (declarations, false)), true, bytes);
+            same(rt, end.0, wanted_end, bytes);
+        }
+        (found, wanted) => same(rt, found.err(), wanted.err(), bytes),
+    }
+}
+
+// Bytes, an error that they don't have, and what is before it.
+#[rattlefmt::skip]
+static OTHERS: &[(&[u8], Error, Result<Before>)] = &[
+    (TWICE, AttributeNameZero, Err(DuplicateAbbreviationCode(1))),
+    (TWICE, DuplicateAbbreviationCode(2), Err(DuplicateAbbreviationCode(1))),
+    (UNIT, AttributeNameZero, Ok((&[NAMED_UNIT], 7))),
+    (ENDED, DuplicateAbbreviationCode(1), Ok((&[(1, BARE)], 5))),
+];
+
+#[test]
+fn other_errors_are_looked_for_in_vain(rt: HostRuntime) {
+    for (bytes, error, wanted) in OTHERS {
+        check_before(&rt, rt.alloc(), (0, bytes, 0, error), *wanted);
     }
 }
 

@@ -1,5 +1,5 @@
 use Rattle.dwarf_read_core.proofs.Common.{◌≡◌, ℕ, List, length, None, Ok, empty, end_of, by_end, declaration_at, table_in}
-use Rattle.dwarf_read_core.proofs.tables.TablesAreRead.{BeginsWith}
+use Rattle.dwarf_read_core.specs.Answer.{BeginsWith}
 use Rattle.dwarf_read_core.proofs.read.abbrev.parse.parse.Given as goal
 
 -- the declarations so far and what is read after them are the whole table
