@@ -81,28 +81,33 @@ extern "C" {
 enum {
     DWARF_OK = 0,
 
-    DWARF_UNEXPECTED_EOF = 1, /* bytes are missing; the value is the position */
-    DWARF_BAD_UNSIGNED_LEB128 = 2,
-    DWARF_BAD_SIGNED_LEB128 = 3,
-    DWARF_ABBREVIATION_TAG_ZERO = 4,
-    DWARF_INVALID_ABBREVIATION_CHILDREN = 5, /* the value is the byte */
-    DWARF_ATTRIBUTE_NAME_ZERO = 6,
-    DWARF_ATTRIBUTE_FORM_ZERO = 7,
-    DWARF_DUPLICATE_ABBREVIATION_CODE = 8, /* the value is the code */
-    DWARF_UNKNOWN_RESERVED_LENGTH = 9,     /* the value is the length */
-    DWARF_UNSUPPORTED_OFFSET = 10,
-    DWARF_UNKNOWN_VERSION = 11,            /* the value is the version */
-    DWARF_UNSUPPORTED_ADDRESS_SIZE = 12,   /* the value is the size */
-    DWARF_UNSUPPORTED_SEGMENT_SIZE = 13,   /* the value is the size */
-    DWARF_OUT_OF_MEMORY = 18,
-    DWARF_UNKNOWN_UNIT_TYPE = 20,          /* the value is the type */
+    /* The errors. (Generated.) */
+    DWARF_UNEXPECTED_EOF = 1,                /* bytes are missing; the value is the position */
+    DWARF_BAD_UNSIGNED_LEB128 = 2,           /* an unsigned LEB128 number is too long or too large */
+    DWARF_BAD_SIGNED_LEB128 = 3,             /* a signed LEB128 number is too long or out of range */
+    DWARF_ABBREVIATION_TAG_ZERO = 4,         /* the tag of an abbreviation is 0 */
+    DWARF_INVALID_ABBREVIATION_CHILDREN = 5, /* the byte that says whether there are children is neither 0 nor 1;
+                                                the value is the byte */
+    DWARF_ATTRIBUTE_NAME_ZERO = 6,           /* the name of an attribute is 0, and its form isn't */
+    DWARF_ATTRIBUTE_FORM_ZERO = 7,           /* the form of an attribute is 0, and its name isn't */
+    DWARF_DUPLICATE_ABBREVIATION_CODE = 8,   /* an abbreviation has the code of an earlier one; the value is the
+                                                code */
+    DWARF_UNKNOWN_RESERVED_LENGTH = 9,       /* the length of a set or a unit is reserved; the value is that length */
+    DWARF_UNSUPPORTED_OFFSET = 10,           /* a number doesn't fit an offset */
+    DWARF_UNKNOWN_VERSION = 11,              /* the version of a set isn't 5, or that of a unit isn't 2 to 5; the
+                                                value is the version */
+    DWARF_UNSUPPORTED_ADDRESS_SIZE = 12,     /* addresses don't have this size, which is the value */
+    DWARF_UNSUPPORTED_SEGMENT_SIZE = 13,     /* the segment size of a set isn't 0; the value is the size */
+    DWARF_OUT_OF_MEMORY = 18,                /* memory ran out */
+    DWARF_UNKNOWN_UNIT_TYPE = 20,            /* the type of a unit isn't one of DWARF 5; the value is the type */
 
     /* No call here returns these. dwarf_fault_text has their texts. */
-    DWARF_UNSUPPORTED_OFFSET_SIZE = 14, /* the value is the size */
-    DWARF_BAD_UTF8 = 15,
-    DWARF_ADDRESS_OVERFLOW = 16,
-    DWARF_UNSUPPORTED_REGISTER = 17,       /* the value is the register */
-    DWARF_UNTERMINATED_ABBREVIATIONS = 19, /* the value is the position */
+    DWARF_UNSUPPORTED_OFFSET_SIZE = 14,      /* offsets don't have this size, which is the value */
+    DWARF_BAD_UTF8 = 15,                     /* a string isn't UTF-8 */
+    DWARF_ADDRESS_OVERFLOW = 16,             /* the sum of an address and a length is no address */
+    DWARF_UNSUPPORTED_REGISTER = 17,         /* the number of a register doesn't fit 16 bits; the value is that
+                                                number */
+    DWARF_UNTERMINATED_ABBREVIATIONS = 19,   /* only the section's end closes a table; the value is the position */
 
     DWARF_NO_ROOM = 100, /* an array is shorter than what the call has to write */
     DWARF_NO_NAME = 101, /* no constant has the value, or no error the number and the value */

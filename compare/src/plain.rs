@@ -4,7 +4,7 @@
 //! It is plain, and slow where that is plainer. It shares nothing with the library. The standard doesn't say which
 //! error a reader gives of bytes that are malformed, nor where; that is as the library's documentation says.
 
-use crate::question::{sum_of, Answer, Declaration, Question, Unit, What, UNKNOWN_UNIT_TYPE};
+use crate::question::{sum_of, Answer, Declaration, Question, Unit, What};
 use crate::sys::Set;
 use std::collections::BTreeMap;
 use std::sync::atomic::{AtomicUsize, Ordering::Relaxed};
@@ -482,7 +482,7 @@ fn unit(bytes: &[u8], offset: usize, is_big: bool, own_type: u8, takes_any: bool
         5 => {
             unit_type = rest.byte()?;
             if has(Plant::UnitType) && !(1..=6).contains(&unit_type) {
-                return Err((UNKNOWN_UNIT_TYPE, unit_type.into()));
+                return Err(("UnknownUnitType", unit_type.into()));
             }
             if has(Plant::Layout) {
                 found.abbrev_offset = rest.fixed(word, is_big)? as usize;
@@ -496,7 +496,7 @@ fn unit(bytes: &[u8], offset: usize, is_big: bool, own_type: u8, takes_any: bool
     }
     let own_fields = rest.at;
     if !(1..=6).contains(&unit_type) {
-        return Err((UNKNOWN_UNIT_TYPE, unit_type.into()));
+        return Err(("UnknownUnitType", unit_type.into()));
     }
     if !matches!(unit_type, 1 | 3) {
         found.signature = rest.fixed(8, is_big)?;

@@ -4,7 +4,8 @@ use crate::sys::Set;
 use std::fmt;
 
 /// The errors by the numbers of `include/dwarf_read.h`.
-pub const ERRORS: [&str; 21] = [
+pub const ERRORS: &[&str] = &[
+    // tools/constants writes the names.
     "none",
     "UnexpectedEof",
     "BadUnsignedLeb128",
@@ -25,7 +26,7 @@ pub const ERRORS: [&str; 21] = [
     "UnsupportedRegister",
     "OutOfMemory",
     "UnterminatedAbbreviations",
-    UNKNOWN_UNIT_TYPE,
+    "UnknownUnitType",
 ];
 
 /// The name of an error by its number.
@@ -37,11 +38,8 @@ pub fn error_name(number: u32) -> &'static str {
 const OLD_NAMES: [(&str, &str); 3] = [
     ("BadHasChildren", "InvalidAbbreviationChildren"),
     ("ExpectedZero", "AttributeNameZero"),
-    ("UnsupportedUnitType", UNKNOWN_UNIT_TYPE),
+    ("UnsupportedUnitType", "UnknownUnitType"),
 ];
-
-/// The error of units alone.
-pub const UNKNOWN_UNIT_TYPE: &str = "UnknownUnitType";
 
 /// An error as its debug text tells it: its name, and the number in it, if there is one.
 pub fn fault_of_text(text: &str, rest: Option<usize>) -> Answer {

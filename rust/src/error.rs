@@ -10,6 +10,7 @@ pub type Result<T> = core::result::Result<T, Error>;
 #[derive(Debug, Clone, Copy, PartialEq, Eq, Hash)]
 #[non_exhaustive]
 pub enum ErrorKind {
+    // tools/constants writes these variants.
     /// Bytes are missing. The value is the position.
     UnexpectedEof,
     /// An unsigned LEB128 number is too long or too large.
@@ -42,7 +43,8 @@ pub enum ErrorKind {
     BadUtf8,
     /// The sum of an address and a length is no address. No call here returns this.
     AddressOverflow,
-    /// The number of a register doesn't fit 16 bits. No call here returns this.
+    /// The number of a register doesn't fit 16 bits. The value is that number. No call here returns
+    /// this.
     UnsupportedRegister,
     /// Memory ran out.
     OutOfMemory,
@@ -55,7 +57,8 @@ pub enum ErrorKind {
 }
 
 // In the order of their numbers, from 1.
-const KINDS: [ErrorKind; 20] = [
+// tools/constants writes this list.
+const KINDS: &[ErrorKind] = &[
     ErrorKind::UnexpectedEof,
     ErrorKind::BadUnsignedLeb128,
     ErrorKind::BadSignedLeb128,
@@ -167,40 +170,42 @@ mod tests {
     use std::format;
     use std::string::ToString;
 
-    // The text of each error without a value, or with the value 0.
-    fn text_of(kind: ErrorKind) -> &'static str {
-        match kind {
-            ErrorKind::UnexpectedEof => "unexpected end of input",
-            ErrorKind::BadUnsignedLeb128 => "unsigned LEB128 overflow",
-            ErrorKind::BadSignedLeb128 => "signed LEB128 overflow",
-            ErrorKind::AbbreviationTagZero => "invalid abbreviation tag: zero",
-            ErrorKind::InvalidAbbreviationChildren => "invalid abbreviation children: 0x0",
-            ErrorKind::AttributeNameZero => "invalid attribute name: zero",
-            ErrorKind::AttributeFormZero => "invalid attribute form: zero",
-            ErrorKind::DuplicateAbbreviationCode => "duplicate abbreviation code: 0",
-            ErrorKind::UnknownReservedLength => "unknown reserved length: 0x0",
-            ErrorKind::UnsupportedOffset => "offset overflow",
-            ErrorKind::UnknownVersion => "unknown DWARF version: 0",
-            ErrorKind::UnsupportedAddressSize => "unsupported address size: 0",
-            ErrorKind::UnsupportedSegmentSize => "unsupported segment size: 0",
-            ErrorKind::UnsupportedOffsetSize => "unsupported offset size: 0",
-            ErrorKind::BadUtf8 => "invalid UTF-8",
-            ErrorKind::AddressOverflow => "address overflow",
-            ErrorKind::UnsupportedRegister => "unsupported register: 0x0",
-            ErrorKind::OutOfMemory => "out of memory",
-            ErrorKind::UnterminatedAbbreviations => "unterminated abbreviation table",
-            ErrorKind::UnknownUnitType => "unknown unit type: 0x0",
-            ErrorKind::Other(_) => "unknown error 21",
-        }
-    }
+    // Each error with a value, or 0, and its text, in the order of their numbers.
+    // tools/constants writes this list.
+    const TEXTS: &[(ErrorKind, u64, &str)] = &[
+        (ErrorKind::UnexpectedEof, 5, "unexpected end of input"),
+        (ErrorKind::BadUnsignedLeb128, 0, "unsigned LEB128 overflow"),
+        (ErrorKind::BadSignedLeb128, 0, "signed LEB128 overflow"),
+        (ErrorKind::AbbreviationTagZero, 0, "invalid abbreviation tag: zero"),
+        (ErrorKind::InvalidAbbreviationChildren, 0x1f, "invalid abbreviation children: 0x1f"),
+        (ErrorKind::AttributeNameZero, 0, "invalid attribute name: zero"),
+        (ErrorKind::AttributeFormZero, 0, "invalid attribute form: zero"),
+        (ErrorKind::DuplicateAbbreviationCode, 0x10000, "duplicate abbreviation code: 65536"),
+        (ErrorKind::UnknownReservedLength, 0xfffffff0, "unknown reserved length: 0xfffffff0"),
+        (ErrorKind::UnsupportedOffset, 0, "offset overflow"),
+        (ErrorKind::UnknownVersion, 0x10000, "unknown DWARF version: 65536"),
+        (ErrorKind::UnsupportedAddressSize, 9, "unsupported address size: 9"),
+        (ErrorKind::UnsupportedSegmentSize, 9, "unsupported segment size: 9"),
+        (ErrorKind::UnsupportedOffsetSize, 9, "unsupported offset size: 9"),
+        (ErrorKind::BadUtf8, 0, "invalid UTF-8"),
+        (ErrorKind::AddressOverflow, 0, "address overflow"),
+        (ErrorKind::UnsupportedRegister, 0x10000, "unsupported register: 0x10000"),
+        (ErrorKind::OutOfMemory, 0, "out of memory"),
+        (ErrorKind::UnterminatedAbbreviations, 5, "unterminated abbreviation table"),
+        (ErrorKind::UnknownUnitType, 0x1f, "unknown unit type: 0x1f"),
+    ];
 
     // The library's text of a number, which is proved, shows that the number is that of the kind.
     #[test]
     fn numbers_are_those_of_the_library() {
-        for (number, kind) in (1..).zip(KINDS.into_iter().chain([ErrorKind::Other(21)])) {
-            let error = Error(sys::Fault { kind: number, value: 0 });
-            assert_eq!((error.kind(), error.to_string().as_str()), (kind, text_of(kind)));
+        let next = KINDS.len() as u32 + 1;
+        let unknown = format!("unknown error {}", next);
+        let rows = TEXTS.iter().copied().chain([(ErrorKind::Other(next), 0, unknown.as_str())]);
+        for (number, (kind, value, text)) in (1..).zip(rows) {
+            let error = Error(sys::Fault { kind: number, value });
+            assert_eq!((error.kind(), error.to_string().as_str()), (kind, text));
         }
+        assert_eq!(TEXTS.len(), KINDS.len());
     }
 
     #[test]
@@ -216,8 +221,8 @@ mod tests {
     fn unknown_numbers_are_errors() {
         for (status, value, shown) in [(0, 0, "Ok(true)"), (102, 0, "Ok(false)")]
             .into_iter()
-            .chain([(1, 7, "Err(UnexpectedEof(7))"), (21, 7, "Err(Other(21)(7))")])
-            .chain([(99, 7, "Err(Other(99)(7))"), (100, 7, "Err(Other(100)(0))")])
+            .chain([(1, 7, "Err(UnexpectedEof(7))"), (99, 7, "Err(Other(99)(7))")])
+            .chain([(100, 7, "Err(Other(100)(0))")])
             .chain([(u32::MAX, 7, "Err(Other(4294967295)(0))")])
         {
             let made = check_unless(sys::END, |fault| {

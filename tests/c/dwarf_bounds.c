@@ -293,7 +293,7 @@ static void check_no_room(void) {
     check(dwarf_sleb128_write(-65, NULL, 0, &len) == DWARF_NO_ROOM && len == 2, "signed");
 }
 
-/* An error and a room for its text; what the call returns, the length and the text. First comes each error by its name
+/* An error and a room for its text; what the call returns, the length and the text. Last comes each error by its name
    in the header: the text, which is proved, shows that the name has the number of that error. */
 static const struct {
     struct dwarf_fault fault;
@@ -302,34 +302,35 @@ static const struct {
     size_t len;
     const char *text;
 } texts[] = {
-    {{DWARF_UNEXPECTED_EOF, 9}, 63, DWARF_OK, 23, "unexpected end of input"},
-    {{DWARF_BAD_UNSIGNED_LEB128, 0}, 63, DWARF_OK, 24, "unsigned LEB128 overflow"},
-    {{DWARF_BAD_SIGNED_LEB128, 0}, 63, DWARF_OK, 22, "signed LEB128 overflow"},
-    {{DWARF_ABBREVIATION_TAG_ZERO, 0}, 63, DWARF_OK, 30, "invalid abbreviation tag: zero"},
-    {{DWARF_INVALID_ABBREVIATION_CHILDREN, 0x56}, 63, DWARF_OK, 35, "invalid abbreviation children: 0x56"},
-    {{DWARF_ATTRIBUTE_NAME_ZERO, 0}, 63, DWARF_OK, 28, "invalid attribute name: zero"},
-    {{DWARF_ATTRIBUTE_FORM_ZERO, 0}, 63, DWARF_OK, 28, "invalid attribute form: zero"},
-    {{DWARF_DUPLICATE_ABBREVIATION_CODE, 129}, 63, DWARF_OK, 32, "duplicate abbreviation code: 129"},
-    {{DWARF_UNKNOWN_RESERVED_LENGTH, 0xfffffff0}, 63, DWARF_OK, 35, "unknown reserved length: 0xfffffff0"},
-    {{DWARF_UNSUPPORTED_OFFSET, 0}, 63, DWARF_OK, 15, "offset overflow"},
-    {{DWARF_UNKNOWN_VERSION, 4}, 63, DWARF_OK, 24, "unknown DWARF version: 4"},
-    {{DWARF_UNSUPPORTED_ADDRESS_SIZE, 3}, 63, DWARF_OK, 27, "unsupported address size: 3"},
-    {{DWARF_UNSUPPORTED_SEGMENT_SIZE, 1}, 63, DWARF_OK, 27, "unsupported segment size: 1"},
-    {{DWARF_UNSUPPORTED_OFFSET_SIZE, 3}, 63, DWARF_OK, 26, "unsupported offset size: 3"},
-    {{DWARF_BAD_UTF8, 0}, 63, DWARF_OK, 13, "invalid UTF-8"},
-    {{DWARF_ADDRESS_OVERFLOW, 0}, 63, DWARF_OK, 16, "address overflow"},
-    {{DWARF_UNSUPPORTED_REGISTER, 0x10000}, 63, DWARF_OK, 29, "unsupported register: 0x10000"},
-    {{DWARF_OUT_OF_MEMORY, 0}, 63, DWARF_OK, 13, "out of memory"},
-    {{DWARF_UNTERMINATED_ABBREVIATIONS, 9}, 63, DWARF_OK, 31, "unterminated abbreviation table"},
-    {{DWARF_UNKNOWN_UNIT_TYPE, 0x80}, 63, DWARF_OK, 23, "unknown unit type: 0x80"},
     {{DWARF_UNKNOWN_UNIT_TYPE, 256}, 63, DWARF_NO_NAME, 7, ""},
     {{DWARF_UNKNOWN_VERSION, UINT64_MAX}, 63, DWARF_OK, 43, "unknown DWARF version: 18446744073709551615"},
     {{DWARF_UNKNOWN_VERSION, UINT64_MAX}, 0, DWARF_NO_ROOM, 43, ""},
     {{DWARF_UNSUPPORTED_OFFSET_SIZE, 256}, 63, DWARF_NO_NAME, 7, ""},
     {{DWARF_UNKNOWN_RESERVED_LENGTH, 0xfffffff0}, 32, DWARF_NO_ROOM, 35, ""},
     {{0, 0}, 63, DWARF_NO_NAME, 7, ""},
-    {{21, 0}, 63, DWARF_NO_NAME, 7, ""},
     {{UINT32_MAX, 0}, 63, DWARF_NO_NAME, 7, ""},
+    /* tools/constants writes the rows from here on. */
+    {{DWARF_UNEXPECTED_EOF, 5}, 63, DWARF_OK, 23, "unexpected end of input"},
+    {{DWARF_BAD_UNSIGNED_LEB128, 0}, 63, DWARF_OK, 24, "unsigned LEB128 overflow"},
+    {{DWARF_BAD_SIGNED_LEB128, 0}, 63, DWARF_OK, 22, "signed LEB128 overflow"},
+    {{DWARF_ABBREVIATION_TAG_ZERO, 0}, 63, DWARF_OK, 30, "invalid abbreviation tag: zero"},
+    {{DWARF_INVALID_ABBREVIATION_CHILDREN, 0x1f}, 63, DWARF_OK, 35, "invalid abbreviation children: 0x1f"},
+    {{DWARF_ATTRIBUTE_NAME_ZERO, 0}, 63, DWARF_OK, 28, "invalid attribute name: zero"},
+    {{DWARF_ATTRIBUTE_FORM_ZERO, 0}, 63, DWARF_OK, 28, "invalid attribute form: zero"},
+    {{DWARF_DUPLICATE_ABBREVIATION_CODE, 0x10000}, 63, DWARF_OK, 34, "duplicate abbreviation code: 65536"},
+    {{DWARF_UNKNOWN_RESERVED_LENGTH, 0xfffffff0}, 63, DWARF_OK, 35, "unknown reserved length: 0xfffffff0"},
+    {{DWARF_UNSUPPORTED_OFFSET, 0}, 63, DWARF_OK, 15, "offset overflow"},
+    {{DWARF_UNKNOWN_VERSION, 0x10000}, 63, DWARF_OK, 28, "unknown DWARF version: 65536"},
+    {{DWARF_UNSUPPORTED_ADDRESS_SIZE, 9}, 63, DWARF_OK, 27, "unsupported address size: 9"},
+    {{DWARF_UNSUPPORTED_SEGMENT_SIZE, 9}, 63, DWARF_OK, 27, "unsupported segment size: 9"},
+    {{DWARF_UNSUPPORTED_OFFSET_SIZE, 9}, 63, DWARF_OK, 26, "unsupported offset size: 9"},
+    {{DWARF_BAD_UTF8, 0}, 63, DWARF_OK, 13, "invalid UTF-8"},
+    {{DWARF_ADDRESS_OVERFLOW, 0}, 63, DWARF_OK, 16, "address overflow"},
+    {{DWARF_UNSUPPORTED_REGISTER, 0x10000}, 63, DWARF_OK, 29, "unsupported register: 0x10000"},
+    {{DWARF_OUT_OF_MEMORY, 0}, 63, DWARF_OK, 13, "out of memory"},
+    {{DWARF_UNTERMINATED_ABBREVIATIONS, 5}, 63, DWARF_OK, 31, "unterminated abbreviation table"},
+    {{DWARF_UNKNOWN_UNIT_TYPE, 0x1f}, 63, DWARF_OK, 23, "unknown unit type: 0x1f"},
+    {{21, 0}, 63, DWARF_NO_NAME, 7, ""},
 };
 
 static void check_texts(void) {

@@ -440,7 +440,7 @@ static void call_sizes(void) {
 static void call_texts(void) {
     static const uint64_t values[] = {0, 1, UINT32_MAX, UINT64_MAX};
     for (size_t i = 0; i < sizeof values / sizeof *values; i++) {
-        for (uint32_t kind = 0; kind <= 21; kind++) {
+        for (uint32_t kind = 0; kind <= DWARF_NO_ROOM; kind++) {
             for (size_t room = 0; room <= DWARF_TEXT_ROOM; room++) {
                 struct dwarf_fault it = {kind, values[i]};
                 begin("dwarf_fault_text");

@@ -8,26 +8,47 @@ use Rattle.dwarf_fault.specs.declared.DwarfFault.{DwarfFault}
 -- the number of an error, and the position or value that it carries, if any, with a bound of its type; all errors of
 -- higher layers have the same number
 abbrev pub number_and_value : Error → ℕ × Option (ℕ × ℕ)
-number_and_value (UnexpectedEof id) = (1, Some (id.0, 2 ^ 64))
+-- bytes are missing; the value is the position
+number_and_value (UnexpectedEof position) = (1, Some (position.0, 2 ^ 64))
+-- an unsigned LEB128 number is too long or too large
 number_and_value BadUnsignedLeb128 = (2, None)
+-- a signed LEB128 number is too long or out of range
 number_and_value BadSignedLeb128 = (3, None)
+-- the tag of an abbreviation is 0
 number_and_value AbbreviationTagZero = (4, None)
+-- the byte that says whether there are children is neither 0 nor 1; the value is the byte
 number_and_value (InvalidAbbreviationChildren value) = (5, Some (value.0, 2 ^ 8))
+-- the name of an attribute is 0, and its form isn't
 number_and_value AttributeNameZero = (6, None)
+-- the form of an attribute is 0, and its name isn't
 number_and_value AttributeFormZero = (7, None)
+-- an abbreviation has the code of an earlier one; the value is the code
 number_and_value (DuplicateAbbreviationCode code) = (8, Some (code, 2 ^ 64))
-number_and_value (UnknownReservedLength value) = (9, Some (value, 2 ^ 32))
+-- the length of a set or a unit is reserved; the value is that length
+number_and_value (UnknownReservedLength length) = (9, Some (length, 2 ^ 32))
+-- a number doesn't fit an offset
 number_and_value UnsupportedOffset = (10, None)
+-- the version of a set isn't 5, or that of a unit isn't 2 to 5; the value is the version
 number_and_value (UnknownVersion version) = (11, Some (version, 2 ^ 64))
+-- addresses don't have this size, which is the value
 number_and_value (UnsupportedAddressSize size) = (12, Some (size, 2 ^ 8))
+-- the segment size of a set isn't 0; the value is the size
 number_and_value (UnsupportedSegmentSize size) = (13, Some (size, 2 ^ 8))
+-- offsets don't have this size, which is the value; no call returns it
 number_and_value (UnsupportedOffsetSize size) = (14, Some (size, 2 ^ 8))
+-- a string isn't UTF-8; no call returns it
 number_and_value BadUtf8 = (15, None)
+-- the sum of an address and a length is no address; no call returns it
 number_and_value AddressOverflow = (16, None)
+-- the number of a register doesn't fit 16 bits; the value is that number; no call returns it
 number_and_value (UnsupportedRegister register) = (17, Some (register, 2 ^ 64))
+-- memory ran out
 number_and_value OutOfMemory = (18, None)
-number_and_value (UnterminatedAbbreviations id) = (19, Some (id.0, 2 ^ 64))
+-- only the section's end closes a table; the value is the position; no call for C returns it
+number_and_value (UnterminatedAbbreviations position) = (19, Some (position.0, 2 ^ 64))
+-- the type of a unit isn't one of DWARF 5; the value is the type
 number_and_value (UnknownUnitType value) = (20, Some (value.0, 2 ^ 8))
+-- an error of a higher layer
 number_and_value _ = (255, None)
 
 -- the number of an error

@@ -24,6 +24,7 @@ pub fn fault_of(error: Error) -> DwarfFault
     ensures reported { result ≡ fault_of error }
     ensures nonzero { 0 < result.kind }
 {
+    // tools/constants writes the arms of both matches, all but the last ones.
     let (kind, value) = match error {
         Error::UnexpectedEof(ReaderOffsetId(position)) => (1, position),
         Error::BadUnsignedLeb128 => (2, 0),

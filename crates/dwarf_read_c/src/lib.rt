@@ -1,5 +1,5 @@
 //! The lowest layer of DWARF reading, for programs in C, C++ and Rust. `include/dwarf_read.h`
-//! declares these functions, and says what a caller has to make sure of.
+//! declares these functions, lists their errors, and says what a caller has to make sure of.
 //!
 //! A call returns [`DWARF_OK`](status::DWARF_OK), or a status that says why it failed. The caller
 //! owns all memory: a call reads the bytes that are passed and writes to the arrays that are

@@ -16,7 +16,7 @@ use dwarf_read_core::{EndianSlice, LittleEndian, Reader};
 ///
 /// # Errors
 ///
-/// 1 (`UnexpectedEof`) or 2 (`BadUnsignedLeb128`), [as for all numbers](dwarf_read_core::leb128).
+/// Those that `dwarf_read.h` lists, in that order.
 #[unsafe(no_mangle)]
 pub extern "C" fn dwarf_uleb128(
     bytes: &[u8],
@@ -46,7 +46,7 @@ pub extern "C" fn dwarf_uleb128(
 ///
 /// # Errors
 ///
-/// 1 (`UnexpectedEof`) or 3 (`BadSignedLeb128`), [as for all numbers](dwarf_read_core::leb128).
+/// Those that `dwarf_read.h` lists, in that order.
 #[unsafe(no_mangle)]
 pub extern "C" fn dwarf_sleb128(
     bytes: &[u8],

@@ -19,8 +19,7 @@ use dwarf_read_core::{
 ///
 /// # Errors
 ///
-/// 1 (`UnexpectedEof`) at 0 if `offset` is past the end, and at `offset` if no zero byte ends the
-/// string.
+/// Those that `dwarf_read.h` lists, in that order.
 #[unsafe(no_mangle)]
 #[tactic(auto, using(crate::proofs::FoundStrings::string_steps))]
 pub extern "C" fn dwarf_string(
@@ -50,12 +49,7 @@ pub extern "C" fn dwarf_string(
 ///
 /// # Errors
 ///
-/// The first of these:
-///
-/// - 1 (`UnexpectedEof`) at 0 if `base` is past the end;
-/// - 10 (`UnsupportedOffset`) if `index` times the size of an offset is 2^64 or more;
-/// - 1 at `base` if the entry begins past the end;
-/// - 1 at the entry if it ends past the end.
+/// Those that `dwarf_read.h` lists, in that order.
 #[unsafe(no_mangle)]
 #[tactic(auto, using(crate::proofs::KnownErrors::known_word))]
 pub extern "C" fn dwarf_str_offset(
@@ -97,13 +91,7 @@ pub extern "C" fn dwarf_str_offset(
 ///
 /// # Errors
 ///
-/// The first of these:
-///
-/// - 1 (`UnexpectedEof`) at 0 if `base` is past the end;
-/// - 10 (`UnsupportedOffset`) if `index` times `size` is 2^64 or more;
-/// - 1 at `base` if the address begins past the end;
-/// - 12 (`UnsupportedAddressSize`) if `size` isn't 1, 2, 4 or 8;
-/// - 1 at the address if it ends past the end.
+/// Those that `dwarf_read.h` lists, in that order.
 #[unsafe(no_mangle)]
 #[tactic(auto, using(crate::proofs::KnownErrors::known_address))]
 pub extern "C" fn dwarf_address(

@@ -42,19 +42,8 @@ pub struct DwarfSet {
 ///
 /// # Errors
 ///
-/// The first of these. If the set lies within the section, `next` and `unit_length` are written with
-/// the error, and nothing else of the set.
-///
-/// - 1 (`UnexpectedEof`) at 0 if `offset` is past the end;
-/// - 1 at `offset` if fewer than four bytes follow;
-/// - 9 (`UnknownReservedLength`) if those four are 0xfffffff0 to 0xfffffffe;
-/// - 1 after them if they are 0xffffffff and fewer than eight bytes follow;
-/// - 1 after the length if fewer bytes follow, or if the set has fewer than two bytes;
-/// - 11 (`UnknownVersion`) if the version isn't 5;
-/// - 1 at the address size if the set ends before it;
-/// - 12 (`UnsupportedAddressSize`) if the address size isn't 1, 2, 4 or 8;
-/// - 1 at the segment size if the set ends before it;
-/// - 13 (`UnsupportedSegmentSize`) if the segment size isn't 0.
+/// Those that `dwarf_read.h` lists, in that order. If the set lies within the section, `next` and
+/// `unit_length` are written with the error, and nothing else of the set.
 #[unsafe(no_mangle)]
 pub extern "C" fn dwarf_address_set_0_3(
     section: &[u8],
@@ -101,8 +90,8 @@ pub extern "C" fn dwarf_address_set_0_3(
 ///
 /// # Errors
 ///
-/// Those of [`dwarf_address_set_0_3`] up to the version, and 1 (`UnexpectedEof`) after the version if
-/// fewer than two bytes of padding follow in the set. `next` and `unit_length` are written as there.
+/// Those that `dwarf_read.h` lists, in that order. `next` and `unit_length` are written as by
+/// [`dwarf_address_set_0_3`].
 #[unsafe(no_mangle)]
 pub extern "C" fn dwarf_str_offset_set_0_3(
     section: &[u8],

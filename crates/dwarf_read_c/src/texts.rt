@@ -14,7 +14,7 @@ use std::alloc::Global;
 /// Writes the text of an error, such as `unexpected end of input`, to the front of `text`, without
 /// a zero byte after it. `len` is how many bytes the text has. If `text` has no room for them,
 /// only `len` is written, and the call returns `DWARF_NO_ROOM`. It returns `DWARF_NO_NAME` if no
-/// error has this number and value, such as 21, or 14 with a value above 255, and 18
+/// error has this number and value, such as 99, or 14 with a value above 255, and 18
 /// (`OutOfMemory`) if memory for the text runs out. Then nothing is written.
 #[unsafe(no_mangle)]
 pub extern "C" fn dwarf_fault_text(

@@ -52,19 +52,8 @@ pub struct DwarfUnit {
 ///
 /// # Errors
 ///
-/// The first of these. With an error of a field, which the last four are, `next` and `unit_length`
+/// Those that `dwarf_read.h` lists, in that order. With an error of a field, `next` and `unit_length`
 /// are written, and nothing else of the unit; with any other, nothing is.
-///
-/// - 1 (`UnexpectedEof`) at 0 if `offset` is past the end;
-/// - 1 at `offset` if fewer than four bytes follow;
-/// - 9 (`UnknownReservedLength`) if those four are 0xfffffff0 to 0xfffffffe;
-/// - 1 after them if they are 0xffffffff and fewer than eight bytes follow;
-/// - 1 after the length if fewer bytes follow;
-/// - 1 at the first field that isn't whole in the unit;
-/// - 11 (`UnknownVersion`) if the version isn't 2 to 5;
-/// - 12 (`UnsupportedAddressSize`) if the address size isn't 1, 2, 4 or 8;
-/// - 20 (`UnknownUnitType`) if the unit's type isn't 1 to 6. It is tested after the fields that all
-///   units have.
 #[unsafe(no_mangle)]
 pub extern "C" fn dwarf_unit_header(
     section: &[u8],

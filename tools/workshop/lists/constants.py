@@ -1,4 +1,4 @@
-"""Keeps every list of the named constants as the families declare them.
+"""Keeps every list of the named constants as the families declare them, and every list of the errors that C sees.
 
     tools/constants            writes the lists
     tools/constants --check    says which lists aren't as the declarations are, and which constants and published rows
@@ -14,6 +14,11 @@ list says that this script writes it; a new list needs one by hand.
 The tables of published values, in dwarf_reader_tests, are written by hand from the published ones, to find wrong lines.
 Each constant has a row there, `NAME=0xVALUE`, and each row a constant with this name and value. The tests compare the
 value with the one that is compiled.
+
+An error that a call for C returns is a row of `number_and_value` in dwarf_fault/specs/Fault.antt, with what it says on
+the line above. From these rows come the arms in dwarf_fault/src/lib.rt, the numbers in include/dwarf_read.h, the names
+in compare/src/question.rs, the errors in rust/src/error.rs, and the rows of the tests in C and Rust, with the texts
+that dwarf_reader_tests has.
 """
 import pathlib
 import re
@@ -23,6 +28,7 @@ import textwrap
 from collections.abc import Callable, Iterator
 
 from workshop import frame, kit
+from workshop.lists import errors
 
 CRATES = pathlib.Path(kit.ROOT) / "crates"
 FAMILIES = ("dwarf_const_core", "dwarf_code_core")
@@ -235,6 +241,7 @@ def files(constants: Constants) -> Iterator[tuple[pathlib.Path, str]]:
     yield HEADER, header(constants)
     yield CALLS, with_numbers(constants, CALLS.read_text())
     yield RUST, with_families(constants, RUST.read_text())
+    yield from errors.files()
 
 
 def unpaired(constants: Constants) -> list[str]:

@@ -1,9 +1,10 @@
 """Tests of what `tools/constants --check` finds."""
+import re
 import unittest
 from unittest import mock
 
 from workshop import frame
-from workshop.lists import constants
+from workshop.lists import constants, errors
 from workshop.script_tests import failed
 
 
@@ -48,3 +49,52 @@ class Checking(unittest.TestCase):
             name, states, _ = frame.made(constants.Lists("test_files"))
         self.assertIn("include/dwarf_constants.h", states[name].why)
         self.assertEqual(path.read_text(), text)
+
+
+# The errors of version 0.4.0, in the order of their numbers from 1 on: a program that is linked with a newer library
+# knows them by these.
+RELEASED = """UnexpectedEof BadUnsignedLeb128 BadSignedLeb128 AbbreviationTagZero InvalidAbbreviationChildren
+    AttributeNameZero AttributeFormZero DuplicateAbbreviationCode UnknownReservedLength UnsupportedOffset UnknownVersion
+    UnsupportedAddressSize UnsupportedSegmentSize UnsupportedOffsetSize BadUtf8 AddressOverflow UnsupportedRegister
+    OutOfMemory UnterminatedAbbreviations UnknownUnitType"""
+
+
+class Errors(unittest.TestCase):
+    """A list of errors that isn't as the rows of Fault.antt are, and rows that make no list, fail the check."""
+
+    def test_released(self) -> None:
+        """Errors keep their numbers from version to version."""
+        names = [it.name for it in errors.errors(errors.ROWS.read_text())]
+        self.assertEqual(names[: len(RELEASED.split())], RELEASED.split())
+
+    def test_each_list(self) -> None:
+        """A slip in any list is written over, so its file isn't as declared."""
+        rows = [
+            (errors.ROWS, "UnexpectedEof, BadUnsignedLeb128", "BadUnsignedLeb128"),
+            (errors.MATCHES, "use dwarf_read_core::{DwChildren, DwUt, ", "use dwarf_read_core::{"),
+            (errors.MATCHES, "Error::UnknownVersion(version) => (11, version)", "Error::UnknownVersion(_) => (11, 0)"),
+            (errors.MATCHES, "11 => Error::UnknownVersion(value)", "12 => Error::UnknownVersion(value)"),
+            (errors.HEADER, "DWARF_OUT_OF_MEMORY = 18", "DWARF_OUT_OF_MEMORY = 17"),
+            (errors.HEADER, "/* memory ran out */", "/* memory */"),
+            (errors.C_TEST, '13, "out of memory"', '14, "out of memory"'),
+            (errors.COMPARER, '    "OutOfMemory",\n', ""),
+            (errors.RUST, "    /// Memory ran out.\n    OutOfMemory,\n", ""),
+            (errors.RUST, "    ErrorKind::OutOfMemory,\n", ""),
+            (errors.RUST, '(ErrorKind::OutOfMemory, 0, "out of memory")', '(ErrorKind::OutOfMemory, 1, "out of memory")'),
+        ]
+        found = errors.errors(errors.ROWS.read_text())
+        self.assertEqual({it[0] for it in rows}, {it[0] for it in errors.lists(found)})
+        for path, old, new in rows:
+            text = path.read_text()
+            changed = text.replace(old, new)
+            self.assertTrue(changed != text and errors.with_lists(found, path, changed) == text, old)
+
+    def test_bad_rows(self) -> None:
+        text = errors.ROWS.read_text()
+        for old, new, why in (
+            ("OutOfMemory = (18,", "OutOfMemory = (19,", "aren't numbered"),
+            ("-- memory ran out\n", "", "aren't numbered"),
+            ("number_and_value OutOfMemory", "number_and_value NoMemory", "NoMemory is no error"),
+        ):
+            with self.assertRaisesRegex(SystemExit, re.escape(why)):
+                errors.errors(text.replace(old, new))
