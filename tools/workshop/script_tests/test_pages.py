@@ -39,35 +39,128 @@ def of_kind(page: str, kind: str) -> list[str]:
 
 
 # A ratio in a text, such as 0.57, and neither a version nor a part of one.
-RATIO = re.compile(r"(?<![\d.])(?<!gimli )\d\.\d\d(?![\d.])")
+RATIO = re.compile(r"(?<![\d.])(?<!gimli )\d\.\d\d(?!\.?\d)")
+# The rows that the ratios of README's section on speed are from, in their order, each after the command that wrote it.
+RATIOS = [
+    ("time --elf", "a declaration of a table, a Rust program"),
+    ("time --elf", "a declaration of a table, a C++ object"),
+    ("time --elf", "a declaration of a table by the call for C, a Rust program"),
+    ("time --elf", "a declaration of a table by the call for C, a C++ object"),
+]
+# What the section says in words, the ratios of which it is true, and the rows that have to have such ratios.
+IN_WORDS = [
+    (
+        "`get_str` takes less than half of gimli's time.",
+        (0.0, 0.495),
+        [
+            ("time", "`get_str`, made-up strings"),
+            ("time --elf", "`get_str`, strings of a Rust program"),
+            ("time --elf", "`get_str`, strings of a C++ object"),
+        ],
+    ),
+    (
+        "Numbers of 16 bits, skipped numbers and `get_str_offset` take as long as in gimli.",
+        (0.95, 1.05),
+        [
+            ("time", "a number of 16 bits of any length"),
+            ("time", "a number of 16 bits mostly of one byte"),
+            ("time", "a number skipped, of any length"),
+            ("time", "a number skipped, mostly of one byte"),
+            ("time", "`get_str_offset`"),
+        ],
+    ),
+]
+GIMLI = re.compile(r"gimli (\d+\.\d+(?:\.\d+)?)")
 
 
 def unmeasured(page: str, file: str) -> list[str]:
-    """The rows with a number and the ratios of a page with this text that the file of measurements doesn't have."""
+    """The rows with a number of a page that the file of measurements does not have, and the ratios that are
+    in no row."""
     rows = set(measured.rows_of(file).items())
     of_page = measured.rows_of(page)
     found = [row for place, row in of_page.items() if re.search(r"\d", row) and (place, row) not in rows]
-    prose = measured.TABLE.sub("", page)
-    return found + [it for it in RATIO.findall(prose) if it != "1.00" and it not in RATIO.findall(file)]
+    return found + [it for it in RATIO.findall(measured.TABLE.sub("", page)) if it != "1.00"]
+
+
+def ratio_of(file: str, command: str, name: str) -> str:
+    """The ratio of a row that a command wrote into a file of measurements with this text."""
+    section = dict(measured.SECTION.findall(file))[command]
+    row = {cells.split(" | ")[0]: (head, cells) for (head, _), cells in measured.rows_of(section).items()}[f"| {name}"]
+    head, cells = (it.split(" | ") for it in row)
+    return cells[head.index("ratio")]
+
+
+def misquoted(speed: str, file: str) -> list[str]:
+    """What a section on speed with this text says, and the file of measurements doesn't."""
+    said, written = RATIO.findall(speed), [ratio_of(file, *it) for it in RATIOS]
+    found = [] if said == written else [f"{' '.join(said)}, not {' '.join(written)}"]
+    for words, (low, high), rows in IN_WORDS:
+        if words not in " ".join(speed.split()):
+            found.append(f"not there: {words}")
+        found += [f"{name}: {words}" for at, name in rows if not low <= float(ratio_of(file, at, name)) <= high]
+    return found
 
 
 class Pages(unittest.TestCase):
     def test_numbers(self) -> None:
-        """The numbers of BENCHMARKS and the ratios of README's section on speed are those that `tools/compare` wrote."""
+        """The rows of BENCHMARKS are those that `tools/compare` wrote, and README's section on speed quotes rows."""
         file = kit.text_of(measured.FILE)
         speed = kit.text_of(f"{kit.ROOT}/README.md").partition("\n## Speed\n")[2].partition("\n## ")[0]
         self.assertEqual(unmeasured(kit.text_of(measured.PAGE), file), [])
-        self.assertEqual(unmeasured(speed, file), [])
+        self.assertEqual(misquoted(speed, file), [])
+
+    def test_misquoted(self) -> None:
+        file = kit.text_of(measured.FILE)
+        speed = f"{' '.join(ratio_of(file, *it) for it in RATIOS)} {' '.join(it for it, _, _ in IN_WORDS)}"
+        self.assertEqual(misquoted(speed, file), [])
+        swapped = " ".join(ratio_of(file, *it) for it in reversed(RATIOS))
+        self.assertEqual(len(misquoted(f"{swapped} {speed.partition(' `')[2]}", file)), 2)
+        for command, name in [*RATIOS, *(it for *_, rows in IN_WORDS for it in rows)]:
+            row = re.compile(rf"(`tools/compare {command}`\n.*?\| {re.escape(name)} \| .*? \| .*? \| )\d", re.S)
+            self.assertEqual(len(misquoted(speed, row.sub(r"\g<1>7", file, 1))), 1, name)
+
+    def test_numbers_of_sources(self) -> None:
+        """Pages have the numbers of the sources: the room of a table, the header of a set, versions, and the kit."""
+
+        def text(path: str) -> str:
+            return " ".join(kit.text_of(f"{kit.ROOT}/{path}").split())
+
+        rows, attributes = map(int, re.findall(r"left / \d < (\d+)", text("include/dwarf_read.h")))
+        lengths = re.findall(r"Format::Dwarf\d\d => (\d+),", text("crates/dwarf_base_core/src/common.rt"))
+        narrow, wide = (int(it) + 2 + 2 for it in lengths[:2])
+        rust = re.findall(r'rust-version = "(.*?)"', text("rust/Cargo.toml"))[0]
+        kits = [it.split() for it in kit.KITS]
+        for page, words in (
+            ("docs/C.md", f"it makes room for {rows:,} abbreviations and {attributes:,} attributes at first"),
+            ("docs/DECISIONS.md", f"make room for {rows:,} abbreviations at first"),
+            ("rust/src/table.rs", f"at most {rows:,} /// abbreviations and {attributes:,} attributes"),
+            ("rust/src/table.rs", f"USUAL_ROWS: usize = {rows}; const USUAL_ATTRIBUTES: usize = {attributes};"),
+            ("docs/C.md", f"their `base` is {narrow}, or {wide} in the 64-bit format"),
+            ("rust/README.md", f"The crate needs Rust {rust}."),
+            ("elf/Cargo.toml", f'rust-version = "{rust}"'),
+            ("CONTRIBUTING.md", f"the `rustc` that it installs, {rust}, has to compile the crate for Rust"),
+            ("README.md", f"(`{kits[0][0]}` or `{kits[1][0].rpartition('-')[2]}`, checker sum `{kits[0][2]}`, as"),
+        ):
+            self.assertTrue(words in text(page), f"{page}: {words}")
+
+    def test_versions_of_gimli(self) -> None:
+        """Pages name the version that the comparer's lock file has, and the oldest that its manifest takes."""
+        lock, manifest = (kit.text_of(f"{kit.ROOT}/compare/{it}") for it in ("Cargo.lock", "Cargo.toml"))
+        locked = re.findall(r'name = "gimli"\nversion = "(.*)"', lock)[0]
+        oldest = re.findall(r'^gimli = .*">=(\d+\.\d+)', manifest, re.M)[0]
+        pages = [it for pattern in ("*.md", "docs/*.md", "rust/*.md") for it in glob.glob(f"{kit.ROOT}/{pattern}")]
+        named = {it for page in pages if "CHANGELOG" not in page for it in GIMLI.findall(kit.text_of(page))}
+        self.assertEqual(named, {locked, locked.rpartition(".")[0], oldest, f"{oldest}.0"})
 
     def test_stale_numbers(self) -> None:
         head = "| times | gimli | here |\n|---|---|---|\n"
         file = f"## `tools/compare time`\n\n{head}| one | 5.0 | 2.5, 0.50 |\n| two | 4.0 | 1.0, 0.25 |\n"
         rows = [
-            (f"In 0.25 of gimli 0.27:\n\n{head}| two | 4.0 | 1.0, 0.25 |\n", []),
+            (f"As gimli 0.27 and 1.00:\n\n{head}| two | 4.0 | 1.0, 0.25 |\n", []),
             (f"{head}| two | 4.0 | 2.0, 0.50 |\n", ["| two | 4.0 | 2.0, 0.50 |"]),
             (f"{head}| three | 4.0 | 1.0, 0.25 |\n", ["| three | 4.0 | 1.0, 0.25 |"]),
             (f"{head.replace('times', 'counts')}| one | 5.0 | 2.5, 0.50 |\n", ["| one | 5.0 | 2.5, 0.50 |"]),
-            ("In 0.51 to 0.25 of its time.", ["0.51"]),
+            ("In 0.51 of its time.", ["0.51"]),
         ]
         for page, wanted in rows:
             self.assertEqual(unmeasured(page, file), wanted, page)
