@@ -16,7 +16,7 @@ TOP = """\
 # Measurements
 
 `tools/compare` writes this file, so edit nothing here: each section is what the command of its heading printed last,
-with `--write`, and begins with the day. [BENCHMARKS](../docs/BENCHMARKS.md) shows some of the rows.
+with `--write`, and begins with the day and the commit. [BENCHMARKS](../docs/BENCHMARKS.md) shows some of the rows.
 """
 # A section: the heading, and what a command printed.
 SECTION = re.compile(r"^## `tools/compare (.*?)`\n(.*?)(?=^## |\Z)", re.M | re.S)
@@ -41,6 +41,14 @@ def table(heads: Iterable[str], rows: Iterable[str]) -> str:
     return "".join(f"{it}\n" for it in (f"| {' | '.join(heads)} |", "|---" * len([*heads]) + "|", *rows))
 
 
+def when() -> str:
+    """The day, and the commit of this checkout, with `-dirty` after it if there are changes that it doesn't have."""
+    described = kit.run(["git", "describe", "--always", "--dirty", "--abbrev=8", "--exclude=*"], cwd=kit.ROOT)
+    if described.returncode:
+        raise Failed("nothing is written, since git doesn't say which commit this is")
+    return f"{time.strftime('%Y-%m-%d')}, {described.stdout.strip()}"
+
+
 def tell(given: argparse.Namespace, name: str, what_ran: str, printed: str) -> int:
     """Prints the table that a command has made, with what ran, and writes it if that was requested."""
     print(f"{what_ran}\n\n{printed}", end="")
@@ -48,7 +56,7 @@ def tell(given: argparse.Namespace, name: str, what_ran: str, printed: str) -> i
         if given.files or not what_ran.startswith(GIMLI):
             raise Failed(f"nothing is written, since the page compares with {GIMLI}0, and without a FILE")
         sections = dict(SECTION.findall(kit.text_of(FILE)))
-        sections[f"{name} --elf" if given.elf else name] = f"\n{time.strftime('%Y-%m-%d')}; {what_ran}\n\n{printed}\n"
+        sections[f"{name} --elf" if given.elf else name] = f"\n{when()}; {what_ran}\n\n{printed}\n"
         kit.write_file(FILE, TOP + "".join(f"\n## `tools/compare {it}`\n{sections[it].rstrip()}\n" for it in sorted(sections)))
         kit.write_file(PAGE, put_rows(kit.text_of(PAGE), rows_of(printed)))
     return 0
