@@ -15,6 +15,9 @@ CLAUSE = re.compile(r"-clause-(\w+)`")
 # An error of a proof file that begins so says that a module or a record lacks a name. What is lacking is on the next
 # line, which `rt` neither reads nor prints, so it can't tell such an error from a refusal.
 LACKS_NAME = re.compile(r"error: (?:`[^`]*`: )?(?:record `|module `|`[^`]*`: module `|`goal\.)")
+# What follows the name of what isn't proved if a search ended at a limit of its own, so that it may hold. `rt` cuts a long
+# line, also in these words.
+LIMITS = ("; `search` gave up at ", "; `grind` gave up at ", "`grind` stopped at its own limit")
 # A file of a function's proof, in the folder of its path.
 PROOF = re.compile(r"proofs/(?:[a-z_0-9]+/)*((?:[A-Z]\w*/)?\w+)/(?:Answers|Invariants|Proof)\.antt")
 # Functions are found by the heads of items, and by what ends one. Comments and texts are passed over.
@@ -85,6 +88,21 @@ def disagreement(note: str, line: str, text_at: Callable[[str], str]) -> Optiona
     return None
 
 
+def is_limit(line: str) -> bool:
+    """Whether `rt` printed, as far as it goes, that a search ended at a limit."""
+    rest = line.partition("`)")[2]
+    return any(it in line or rest and it.startswith(rest) for it in LIMITS)
+
+
+def unshown(text: str, line: str) -> Optional[str]:
+    """Why nothing shows that a clause is false of a wrong body with this text, or None. If a search ended at a limit, a
+    line of the body has to say with which value all is proved: then the value is what fails."""
+    said = text.partition("\nfile: ")[0].replace("\n#", "")
+    if is_limit(line) and "all is proved" not in said:
+        return "is refused as a search ended at a limit, and no line says with which value all is proved"
+    return None
+
+
 def judge(body: str, line: str) -> Optional[str]:
     """The same for a wrong body of this checkout, as a crate and a file."""
     crate, name = body.split("/")
@@ -97,4 +115,5 @@ def judge(body: str, line: str) -> Optional[str]:
     def text_at(path: str) -> str:
         return str(edited.get(path) or kit.text_of(os.path.join(folder, path)))
 
-    return disagreement(kit.text_of(path).partition("\n")[0], line, text_at)
+    text = kit.text_of(path)
+    return disagreement(text.partition("\n")[0], line, text_at) or unshown(text, line)

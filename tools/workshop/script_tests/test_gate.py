@@ -255,6 +255,26 @@ fn free() {}
             why = wrong_bodies.disagreement(note, line, lambda _: self.SOURCE)
             self.assertEqual(why is None, agree, (note, line, why))
 
+    def test_limits(self) -> None:
+        """Where a search ended at a limit, a body has to say with which value all is proved."""
+        search, grind = (f"note: {self.GOAL}; `{it}` gave up at one of its limits" for it in ("search", "grind"))
+        stopped = "./proofs/first/Answers.antt:8:4: error: `goal`: `grind` stopped at its own limit of 20000 steps"
+        false = f"{self.GOAL}; the facts known there allow values at which this goal is false"
+        for line, is_limit in (
+            (search, True),
+            (grind, True),
+            (stopped, True),
+            (search[: search.index("gave")], True),
+            (search[: search.index("; `") + 3], True),
+            (f"note: {self.GOAL}", False),
+            (false, False),
+            (false[: false.index("facts")], False),
+        ):
+            note = "# refused by first\n# A value is dropped."
+            for notes, is_shown in ((note, False), (f"{note} With `x` as VALUE, all\n# is proved.", True)):
+                why = wrong_bodies.unshown(f"{notes}\nfile: src/lib.rt\nnew: // all is proved\n", line)
+                self.assertEqual(why is None, is_shown or not is_limit, (notes, line))
+
     @unittest.skipUnless(shutil.which("rt"), "there is no Rattle kit")
     def test_notes(self) -> None:
         """The first line of each wrong body names a function that the sources have, and no line is too long."""
