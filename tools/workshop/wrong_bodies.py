@@ -90,8 +90,8 @@ def disagreement(note: str, line: str, text_at: Callable[[str], str]) -> Optiona
 
 def is_limit(line: str) -> bool:
     """Whether `rt` printed, as far as it goes, that a search ended at a limit."""
-    rest = line.partition("`)")[2]
-    return any(it in line or rest and it.startswith(rest) for it in LIMITS)
+    rests = filter(None, (line.partition("`)")[2], line.rpartition("`: ")[2]))
+    return any(it in line for it in LIMITS) or any(it.startswith(rest) for rest in rests for it in LIMITS)
 
 
 def unshown(text: str, line: str) -> Optional[str]:

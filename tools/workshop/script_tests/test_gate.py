@@ -264,6 +264,8 @@ fn free() {}
             (search, True),
             (grind, True),
             (stopped, True),
+            (stopped[: stopped.index("at its")], True),
+            (stopped.replace("stopped at its own limit of 20000 steps", "found no proof"), False),
             (search[: search.index("gave")], True),
             (search[: search.index("; `") + 3], True),
             (f"note: {self.GOAL}", False),
