@@ -139,9 +139,9 @@ def room() -> str:
     return folder.name
 
 
-def new_folder(name: str = "") -> str:
+def new_folder() -> str:
     """A new folder in that folder."""
-    return tempfile.mkdtemp(prefix=f"{name or 'check'}-", dir=room())
+    return tempfile.mkdtemp(prefix="check-", dir=room())
 
 
 def must(words: Sequence[str], **how: Any) -> str:
@@ -210,7 +210,8 @@ def tests_of(things: Iterable[Any]) -> list[unittest.TestCase]:
             names = unittest.defaultTestLoader.getTestCaseNames(it) if issubclass(it, unittest.TestCase) else ()
             found += map(it, names)
         else:
-            found += tests_of(one for one in vars(it).values() if getattr(one, "__module__", "") == it.__name__)
+            own = [one for one in vars(it).values() if isinstance(one, type)]
+            found += tests_of(one for one in own if one.__module__ == it.__name__)
     return found
 
 
@@ -321,6 +322,8 @@ def end_by_pipe() -> None:
 
 def run(main: Callable[[list[str]], int], words: list[str]) -> None:
     """Runs a command, and ends with its exit status. If it is interrupted, its scratch folder goes first."""
+    if not __debug__:
+        sys.exit("PYTHONOPTIMIZE turns assertions off, and so would turn off the checks")
     if "--report" in words:
         at = words.index("--report")
         Requested.report = os.path.abspath(words[at + 1])

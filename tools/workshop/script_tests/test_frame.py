@@ -1,6 +1,7 @@
 """Tests of the frame: how checks are named, made, skipped and counted, and compared with `tools/checks.txt`."""
 import contextlib
 import io
+import os
 import tempfile
 import unittest
 from typing import Optional
@@ -111,6 +112,14 @@ class Making(unittest.TestCase):
             self.assertIn(f"    tools/{name}", ran.stdout)
             self.assertIn("    install ", ran.stdout)
             self.assertRegex(ran.stdout, f"(?m)^    {name} ", module)
+
+
+    def test_assertions(self) -> None:
+        """A Python that makes no assertions makes no checks."""
+        env = {**os.environ, "PYTHONOPTIMIZE": "1"}
+        ran = kit.run([f"{kit.ROOT}/tools/constants", "--check"], env=env)
+        self.assertEqual((ran.returncode, ran.stdout.count("\n")), (1, 1))
+        self.assertRegex(ran.stdout, "^PYTHONOPTIMIZE turns assertions off")
 
 
 class Floor(unittest.TestCase):
