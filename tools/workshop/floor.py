@@ -24,7 +24,7 @@ OTHER = re.compile(r"^&(\S+)\n", re.M)
 COMMENT = re.compile(r"^#.*\n", re.M)
 # The names of each section: how many comparisons each check makes, and whether it may be skipped.
 Sections = dict[str, dict[str, tuple[int, bool]]]
-# The names of checks, each with its count; None stands for one that made no comparisons or wasn't made.
+# The names of checks, each with its count, or with None if it was skipped or failed.
 Counts = Mapping[str, Optional[int]]
 
 

@@ -36,7 +36,7 @@ BUILDS: dict[str, Build] = {
     **{name: (compiler, (*STRICT, "-static"), (qemu,)) for name, (compiler, qemu) in CROSS.items()},
     "Windows": (MINGW, (*STRICT, *WINDOWS), (WINE,)),
 }
-# Those by which the tests are compiled alone: they show no more than cc, if they run.
+# These only compile the tests, which show no more than by cc if they run.
 COMPILED = ("c++", "clang", "clang++")
 TESTED = [it for it in BUILDS if it not in COMPILED]
 # Where programs run that need no headers of another system.

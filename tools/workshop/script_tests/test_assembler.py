@@ -1,4 +1,6 @@
 """Tests of what tools/assembler says of the files in the repository."""
+import contextlib
+import io
 import tempfile
 import unittest
 from unittest import mock
@@ -71,6 +73,18 @@ class Judging(unittest.TestCase):
             wanted = {it: FAILED if not is_made or it.startswith(NAME + " ") else PASSED for it in every}
             self.assertEqual(states, {f"assembler.Files.file/{it}": state for it, state in wanted.items()})
         self.assertEqual(sorted(judged), sorted(every))
+
+
+    def test_sources(self) -> None:
+        """`--sources` ends with status 1 if one file of a crate is of other sources."""
+        with tempfile.TemporaryDirectory() as folder, mock.patch.multiple(products, FILES={CRATE: folder}):
+            with mock.patch.object(products, "code_of", lambda _: SOURCES), contextlib.redirect_stdout(io.StringIO()):
+                for name in products.CODE[CRATE]:
+                    kit.write_file(f"{folder}/{name}.s", assembler.head(CRATE, name, SOURCES, kit.KITS[0]))
+                self.assertEqual(assembler.main(["--sources"]), 0)
+                self.assertEqual(assembler.main(["--sources", CRATE]), 0)
+                kit.write_file(f"{folder}/{NAME}.s", assembler.head(CRATE, NAME, "others", kit.KITS[0]))
+                self.assertEqual(assembler.main(["--sources"]), 1)
 
 
 class Lines(unittest.TestCase):

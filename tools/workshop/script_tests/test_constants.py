@@ -1,9 +1,10 @@
 """Tests of what `tools/constants --check` finds."""
+import os
 import re
 import unittest
 from unittest import mock
 
-from workshop import frame
+from workshop import frame, kit
 from workshop.lists import constants, errors
 from workshop.script_tests import failed
 
@@ -40,6 +41,14 @@ class Checking(unittest.TestCase):
         for change, lines in rows.items():
             names = ["constants.Lists.published"] if lines else []
             self.assertEqual(self.check("DwTag", change), (names, lines), change)
+
+    def test_files(self) -> None:
+        """Each file that says that this script writes a part of it is one of those that are compared."""
+        paths = {os.path.relpath(path, kit.ROOT) for path, _ in constants.files(constants.Constants())}
+        words = ["git", "grep", "-lE", r"tools/constants writes|\(Generated\.\)", "--", "crates", "include", "rust"]
+        found = kit.run(words, cwd=kit.ROOT).stdout.split()
+        self.assertGreater(len(found), 60)
+        self.assertEqual(sorted({*found} - paths), [])
 
     def test_stale(self) -> None:
         """A file that isn't as declared is named, and isn't written."""

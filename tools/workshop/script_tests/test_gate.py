@@ -11,9 +11,10 @@ import unittest
 from typing import Optional
 from unittest import mock
 
-from workshop import floor, gate, kit, tests, wrong_bodies
+from workshop import floor, frame, gate, kit, tests, wrong_bodies
 from workshop.code import products, proving
 from workshop.frame import FAILED, PASSED, SKIPPED, State, States
+from workshop.script_tests import came_of
 
 PROVED = "".join(f"rt: {it} proved\n" for it in kit.CRATES)
 RAN = "test tests::a ... ok\ntest tests::b ... ok\ntest tests::a ... ok\n"
@@ -81,6 +82,54 @@ class Judging(unittest.TestCase):
                 self.assertEqual(gate.gate(now), status)
             line = f"{4 if last == PASSED else 3} passed, {int(last == FAILED)} failed, {int(last == SKIPPED)} skipped"
             self.assertEqual(said.getvalue().splitlines()[-1], line)
+
+    def test_first_steps(self) -> None:
+        """Nothing is proved if a step before the proofs fails, and nothing more is made if they do."""
+        for fails, proves, begun in (("tests", True, [*gate.FIRST]), ("none", False, [*gate.FIRST, "proofs"])):
+            made: list[str] = []
+            now = gate.Gate()
+
+            def step(section: str, *_: object, made: list[str] = made, now: gate.Gate = now, fails: str = fails) -> None:
+                made.append(section)
+                if section == fails:
+                    now.fail("no")
+
+            def prove(_: object, made: list[str] = made, proves: bool = proves) -> bool:
+                made.append("proofs")
+                return proves
+
+            with mock.patch.multiple(gate, prove=prove, DISK_BYTES=0), mock.patch.object(now, "step", step):
+                with contextlib.redirect_stdout(io.StringIO()):
+                    gate.gate(now)
+            self.assertEqual(made, begun)
+
+    def test_layout(self) -> None:
+        """All sources, specs and proofs are laid out."""
+        run = mock.Mock(return_value="")
+        with mock.patch.object(frame, "must", run):
+            self.assertEqual([*came_of(gate.Layout).values()], [PASSED])
+        tracked = kit.run(["git", "ls-files", "crates"], cwd=kit.ROOT).stdout.splitlines()
+        wanted = {it for it in tracked if re.search(r"/(?:src|specs|proofs)/.*\.(?:rt|antt)$", it)}
+        self.assertEqual(wanted - {*run.call_args.args[0]}, set())
+        self.assertEqual(run.call_args.args[0][:3], ["rattle", "fmt", "--check"])
+
+    def test_ci(self) -> None:
+        self.assertEqual(kit.text_of(f"{kit.ROOT}/.ci/run"), "#!/bin/sh\ntools/gate\n")
+
+    def test_runs(self) -> None:
+        """A run of tests fails by its status, by a test, and without tests."""
+        well = "test tests::a ... ok\n"
+        # What a runner says, its status, and the state of the check.
+        rows = [(well, 0, PASSED), (well, 1, FAILED), ("", 0, FAILED), (well + "test tests::b ... FAILED\n", 0, FAILED)]
+        for said, status, state in rows:
+
+            class One(tests.OfProgram):
+                """A run."""
+
+                def test_run(self, said: str = said, status: int = status) -> None:
+                    self.judge(subprocess.CompletedProcess([], status, said))
+
+            self.assertEqual(FAILED if FAILED in came_of(One).values() else PASSED, state, (said, status))
 
     def test_tests(self) -> None:
         """The tests that a runner names are found, with whether each passed."""

@@ -43,6 +43,24 @@ class Sources(unittest.TestCase):
                 self.assertNotEqual(products.code_of(crate), before)
 
 
+    def test_files(self) -> None:
+        """Sources, specs and proofs count, those of the crates below, too."""
+        named = {line.partition("  ")[2] for line in products.sums("dwarf_unit_core").splitlines()}
+        for crate in ("dwarf_unit_core", "dwarf_reader_core", "dwarf_base_core"):
+            for part in ("src", "specs", "proofs"):
+                files = kit.files_below(f"{kit.ROOT}/crates/{crate}/{part}")
+                self.assertEqual({os.path.relpath(it, kit.ROOT) for it in files} - named, set())
+        self.assertIn("crates.txt", named)
+
+    def test_kit(self) -> None:
+        """Another kit makes another product of the same sources."""
+        places = set()
+        for version in kit.KITS:
+            with mock.patch.object(kit, "version", lambda version=version: version), mock.patch("shutil.which", str):
+                places.add(products.place_of_copy("program", "sources"))
+        self.assertEqual(len(places), len(kit.KITS))
+
+
 class Libraries(unittest.TestCase):
     """The libraries below a crate are taken if `rt ci` has kept all of them. Otherwise `rt ci` runs."""
 
