@@ -64,8 +64,9 @@ def by_cmake(check: frame.Check, source: str, target: str, find: str, *words: st
 
 
 def by_cmake_of_root(check: frame.Check, root: Root, target: str) -> list[str]:
-    """The same over what is below a folder."""
-    return by_cmake(check, root.source, target, FIND.format(version=kit.VERSION), f"-DCMAKE_PREFIX_PATH={root.path}")
+    """The same over what is below a folder, which a project may look for twice."""
+    find = FIND.format(version=kit.VERSION)
+    return by_cmake(check, root.source, target, f"{find}\n{find}", f"-DCMAKE_PREFIX_PATH={root.path}")
 
 
 # How a program is built over a folder: the words that run it.

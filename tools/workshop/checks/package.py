@@ -352,6 +352,37 @@ class Files(frame.Check):
         self.assertEqual(soname, [os.path.basename(shared)])
 
 
+    @frame.each(DOCS)
+    def test_hardening(self, kind: str) -> None:
+        """The loader binds the shared library's functions at once, and then protects their addresses."""
+        shared = f"{unpacked(kind)}/{LIBDIR}/{made().shared}"
+        self.assertRegex(output("readelf", "-W", "-l", shared), "GNU_RELRO")
+        self.assertRegex(output("readelf", "-W", "-d", shared), "BIND_NOW")
+
+    def test_shlibs(self) -> None:
+        """What is linked with the shared library depends on its package, from this version on."""
+        said = output("dpkg-deb", "-I", f"{made().work}/{made().debs[0]}", "shlibs")
+        minor = kit.VERSION.rpartition(".")[0]
+        self.assertEqual(said, f"libdwarf_read {minor} {made().of_shared} (>= {kit.VERSION})")
+
+    def test_readme(self) -> None:
+        """The README of the tar names what is there, and the folder of the shared library."""
+        text = kit.text_of(f"{unpacked('tar')}/README")
+        named = re.findall(r"\bFOLDER/([\w./-]*\w)", text)
+        self.assertGreater(len(named), 5)
+        self.assertEqual([it for it in named if not os.path.exists(f"{unpacked('tar')}/{it}")], [])
+        folder = re.findall(r"LD_LIBRARY_PATH name FOLDER/([\w./-]*\w)", text)
+        self.assertEqual(folder, [LIBDIR])
+
+    @frame.each(DOCS)
+    def test_provenance(self, kind: str) -> None:
+        """PROVENANCE names folders that are there."""
+        text = kit.text_of(f"{unpacked(kind)}/{DOCS[kind]}/PROVENANCE").partition("SHA-256")[0]
+        named = re.findall(r"\bshare/[\w./-]*\w", text)
+        self.assertTrue(named)
+        self.assertEqual([it for it in named if not os.path.exists(f"{unpacked(kind)}/{it}")], [])
+
+
 class Unpacked(frame.Check):
     """What is unpacked works where it is, without the kit."""
 
