@@ -4,7 +4,8 @@ A check is a method `test_...` of a `Check`, and fails by an exception. Its name
 after it if `each` makes one check of each row. A check that runs tests of another program reports each of these as
 a part, by `/PART`. What can't be made here is skipped, by `needs`, `need` or `skipTest`, and always says why.
 
-`check` runs the checks of a command. Those that were made or skipped have to be the ones of `tools/checks.txt`.
+`check` runs the checks of a command. Those that were made or skipped have to be the ones of `tools/checks.txt`. With
+`--report FILE` a command also writes their names and states to a file, which the gate reads.
 """
 import atexit
 import functools
@@ -324,7 +325,7 @@ def run(main: Callable[[list[str]], int], words: list[str]) -> None:
     """Runs a command, and ends with its exit status. If it is interrupted, its scratch folder goes first."""
     if not __debug__:
         sys.exit("PYTHONOPTIMIZE turns assertions off, and so would turn off the checks")
-    if "--report" in words:
+    if "--report" in words[:-1]:
         at = words.index("--report")
         Requested.report = os.path.abspath(words[at + 1])
         words = words[:at] + words[at + 2 :]

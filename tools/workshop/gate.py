@@ -1,6 +1,7 @@
 """Makes all checks that have to pass before a merge.
 
     tools/gate [--or-skip]
+    tools/gate --layout       only compares the layout of the sources with the kit's
 
 The layout of the sources, the lists, and the tests and worked cases, unproved, come first: they take two minutes. Then
 the kit's `rt ci` proves every crate and its tests, and tries the wrong bodies. It keeps on this machine what passed,
