@@ -11,7 +11,8 @@ CONTRIBUTING.md says what each step shows.
 The gate stops if one of the first checks fails, or if `rt ci` does. Each step reports its checks by name, and a step
 fails if these aren't the ones of its section of `tools/checks.txt`, or if it ends otherwise than it reports. A check
 that can't be made, such as one of C++ without a compiler, is named and counted as skipped, and fails the gate, unless
-`tools/checks.txt` has it with a `?`. With --or-skip no skipped check does, but a step that skips all of its checks.
+`tools/checks.txt` has it with a `?`. On a machine that lacks packages which CONTRIBUTING.md lists, or with --or-skip,
+no skipped check does, but a step that skips all of its checks.
 
 The last line is `N passed, M failed, K skipped`. The exit status is 0 if nothing failed, 1 if something did, and 2 for
 a wrong command line.
@@ -56,6 +57,17 @@ LAST = {
     "package": ["tools/package", "--check"],
     "fail-alloc": ["tools/fail-alloc"],
 }
+# The packages that CONTRIBUTING.md lists.
+PACKAGES = re.compile(r"^apt-get install ((?:.*\\\n)*.*)$", re.M)
+
+
+def lacking(page: str) -> list[str]:
+    """The packages that a page with this text lists and that aren't installed."""
+    found = PACKAGES.search(page)
+    listed = found[1].replace("\\\n", " ").split() if found else []
+    installed = kit.run(["dpkg-query", "-W", "-f", "${db:Status-Status} ${Package}\n"]) if shutil.which("dpkg-query") else None
+    there = installed.stdout.splitlines() if installed else []
+    return [it for it in listed if f"installed {it}" not in there]
 
 
 class Gate:
@@ -231,8 +243,11 @@ def main(words: list[str]) -> int:
         return frame.check("gate", [Layout], section="gate")
     if words not in ([], ["--or-skip"]):
         return frame.usage(__doc__)
+    absent = lacking(kit.text_of(f"{kit.ROOT}/CONTRIBUTING.md"))
+    if absent:
+        print(f"gate: what these packages are for is skipped, since they aren't installed: {' '.join(absent)}", flush=True)
     try:
-        return gate(Gate(may_skip=bool(words)))
+        return gate(Gate(may_skip=bool(words or absent)))
     except OSError as fault:
         # A disk is full, or a script is missing.
         sys.exit(f"gate: FAILED, since it can't go on: {fault}")

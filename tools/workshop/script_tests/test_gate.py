@@ -206,6 +206,17 @@ class Judging(unittest.TestCase):
             wanted = [(crate, "a target") for crate in products.CODE] if is_built else []
             self.assertEqual((built, now.states), (wanted, {}), (before, after))
 
+    def test_lacking(self) -> None:
+        """The packages of the list that aren't installed are known, whichever line they are on."""
+        page = "```sh\napt-get install one \\\n    two three\n```\n"
+        said = "installed one\nconfig-files two\n"
+        with mock.patch("workshop.kit.run", lambda *_: subprocess.CompletedProcess([], 0, said)):
+            for place, wanted in (("/usr/bin/dpkg-query", ["two", "three"]), (None, ["one", "two", "three"])):
+                with mock.patch("shutil.which", lambda _, it=place: it):
+                    self.assertEqual(gate.lacking(page), wanted)
+        [listed] = gate.PACKAGES.findall(kit.text_of(f"{kit.ROOT}/CONTRIBUTING.md"))
+        self.assertGreater(len(listed.split()), 30)
+
     def test_steps_of_the_page(self) -> None:
         """The gate runs the steps of the page's table, each once, and each is a section of `tools/checks.txt`."""
         text = kit.text_of(f"{kit.ROOT}/CONTRIBUTING.md").partition("\n## The gate\n")[2].partition("\n## ")[0]
