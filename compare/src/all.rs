@@ -1,6 +1,7 @@
-//! All short inputs: sections over a small alphabet, sets and units whose headers are nearly right, lookups in a few
-//! bytes, numbers of up to three bytes, and the edges of longer ones.
+//! All short inputs: sections over a small alphabet, sets and units whose headers are nearly right, values of each form,
+//! lookups in a few bytes, numbers of up to three bytes, and the edges of longer ones.
 
+use crate::made::put_unsigned;
 use crate::question::{Question, What};
 use crate::tally::Tally;
 
@@ -100,6 +101,53 @@ fn units(tally: &mut Tally) {
     }
 }
 
+/// Asks for the entries of a unit whose first attribute has each form, in each version and format, with up to three bytes
+/// and with a long value, before an attribute of one byte, and skips them.
+fn entries(tally: &mut Tally) {
+    let forms = (0..=0x2d).chain([0x1f01u16, 0x1f02, 0x1f20, 0x1f21, 0x1f22]);
+    let long = vec![0x02, 0x61, 0x62, 0, 0x81, 0x82, 0x83, 0x84, 0x85, 0x86, 0x87, 0x88, 0x89, 0x8a, 0x8b, 0x8c, 1, 2];
+    let short = (0..=3).flat_map(|count| lists(&[0x00, 0x01, 0x02, 0x0b, 0x16, 0x80, 0xff], count));
+    let values: Vec<Vec<u8>> = short.chain([long]).collect();
+    for form in forms {
+        let mut abbrev = vec![1, 0x11, 0, 3];
+        put_unsigned(&mut abbrev, form.into());
+        abbrev.extend_from_slice(if form == 0x21 { &[0x7d] } else { &[] });
+        abbrev.extend([4, 0x0b, 0, 0, 0]);
+        for (version, size, is_long) in (2..=5).flat_map(|it| [(it, 2, false), (it, 8, false), (it, 4, true)]) {
+            for value in &values {
+                let mut bytes = abbrev.clone();
+                put_unit(&mut bytes, (version, size, is_long), &[&[1], &value[..]].concat());
+                for what in [What::Entries, What::SkippedEntries] {
+                    let question = Question { more: abbrev.len(), ..Question::new(what, 0) };
+                    tally.ask(&question, &bytes);
+                    tally.ask(&Question { is_big: true, ..question }, &big(&bytes, abbrev.len(), is_long));
+                }
+            }
+        }
+    }
+}
+
+/// Writes a unit of these entries, with the lowest byte first, whose table is at 0.
+fn put_unit(to: &mut Vec<u8>, (version, size, is_long): (u8, u8, bool), entries: &[u8]) {
+    let word = &[0; 8][..if is_long { 8 } else { 4 }];
+    let fields = if version == 5 { [&[1, size], word].concat() } else { [word, &[size]].concat() };
+    let length = 2 + fields.len() + entries.len();
+    match is_long {
+        true => to.extend([&[0xff; 4], &length.to_le_bytes()[..]].concat()),
+        false => to.extend((length as u32).to_le_bytes()),
+    }
+    to.extend([&[version, 0], &fields[..], entries].concat());
+}
+
+/// The same bytes, with the length and the version of the unit turned round.
+fn big(bytes: &[u8], start: usize, is_long: bool) -> Vec<u8> {
+    let mut bytes = bytes.to_vec();
+    let (first, count) = if is_long { (start + 4, 8) } else { (start, 4) };
+    bytes[first..first + count].reverse();
+    bytes[first + count..first + count + 2].reverse();
+    bytes
+}
+
 /// Asks for the number at each index, counted from each base, in up to five bytes: at small places, and where the
 /// product of index and size is as large as an offset can be.
 fn lookups(tally: &mut Tally) {
@@ -160,6 +208,7 @@ pub fn ask(tally: &mut Tally) {
     sections(tally);
     sets(tally);
     units(tally);
+    entries(tally);
     lookups(tally);
     short_numbers(tally);
     long_numbers(tally);

@@ -340,9 +340,169 @@ fn of_units(random: &mut Random) -> (Question, Vec<u8>) {
     (Question { is_big, ..Question::new(what, at) }, bytes)
 }
 
+/// The forms of values, one that is unknown, and that of a value whose form is in the entry.
+const FORMS: [u16; 48] = [
+    0x01, 0x03, 0x04, 0x05, 0x06, 0x07, 0x08, 0x09, 0x0a, 0x0b, 0x0c, 0x0d, 0x0e, 0x0f, 0x10, 0x11, 0x12, 0x13, 0x14,
+    0x15, 0x16, 0x17, 0x18, 0x19, 0x1a, 0x1b, 0x1c, 0x1d, 0x1e, 0x1f, 0x20, 0x21, 0x22, 0x23, 0x24, 0x25, 0x26, 0x27,
+    0x28, 0x29, 0x2a, 0x2b, 0x2c, 0x2d, 0x1f01, 0x1f02, 0x1f20, 0x1f21,
+];
+
+/// What the values of a unit depend on.
+struct Encoding {
+    is_big: bool,
+    version: u64,
+    size: usize,
+    word: usize,
+}
+
+/// A value of a form.
+fn value(random: &mut Random, to: &mut Vec<u8>, form: u16, unit: &Encoding) {
+    let count = random.below(5);
+    let size = match form {
+        0x16 => {
+            let form = random.pick(&FORMS);
+            unsigned(random, to, form.into());
+            return value(random, to, form, unit);
+        }
+        0x03 | 0x04 | 0x0a => {
+            put(to, count as u64, [2, 4, 1][usize::from(form) % 7 % 3], unit.is_big);
+            count
+        }
+        0x09 | 0x18 => {
+            unsigned(random, to, count as u64);
+            count
+        }
+        0x08 => {
+            to.extend(random.bytes(count).iter().map(|it| (*it).max(1)));
+            return to.push(0);
+        }
+        0x0d | 0x0f | 0x15 | 0x1a | 0x1b | 0x22 | 0x23 | 0x1f01 | 0x1f02 => {
+            let number = random.number();
+            return unsigned(random, to, if form == 0x0d { number >> 2 } else { number });
+        }
+        0x01 => unit.size,
+        0x10 if unit.version == 2 => unit.size,
+        0x0e | 0x10 | 0x17 | 0x1d | 0x1f | 0x1f20 | 0x1f21 => unit.word,
+        0x19 | 0x21 | 0x2d => 0,
+        0x05 | 0x12 | 0x26 | 0x2a => 2,
+        0x27 | 0x2b => 3,
+        0x06 | 0x13 | 0x1c | 0x28 | 0x2c => 4,
+        0x07 | 0x14 | 0x20 | 0x24 => 8,
+        0x1e => 16,
+        _ => 1,
+    };
+    to.extend(random.bytes(size));
+}
+
+/// Declarations with codes from 1 on, and the forms of each.
+fn declared(random: &mut Random, to: &mut Vec<u8>) -> Vec<Vec<u16>> {
+    let mut all = vec![];
+    for code in 1..=1 + random.below(4) as u8 {
+        to.extend([code, 0x11, code & 1]);
+        let forms: Vec<u16> = (0..random.below(5)).map(|_| random.pick(&FORMS)).collect();
+        for form in &forms {
+            let name = random.pick(&[0x02, 0x03, 0x10, 0x13, 0x19, 0x2c, 0x38, 0x55, 0x79]);
+            to.push(name);
+            put_unsigned(to, (*form).into());
+            if *form == 0x21 {
+                put_signed(to, random.next() as i64 >> 40);
+            }
+        }
+        to.extend([0, 0]);
+        all.push(forms);
+    }
+    to.push(0);
+    all
+}
+
+/// A unit of entries that have these forms.
+fn unit_of(random: &mut Random, to: &mut Vec<u8>, is_big: bool, declared: &[Vec<u16>]) {
+    let (size, word) = (random.pick(&[1, 2, 4, 8, 8]), random.pick(&[4, 4, 8]));
+    let unit = Encoding { is_big, version: 2 + random.below(4) as u64, size, word };
+    let (mut content, kind) = (vec![], 1 + random.below(6) as u8);
+    put(&mut content, unit.version, 2, is_big);
+    if unit.version == 5 {
+        content.extend([kind, size as u8]);
+    }
+    put(&mut content, 0, word, is_big);
+    match unit.version {
+        5 if matches!(kind, 2 | 6) => content.extend(random.bytes(8 + word)),
+        5 if matches!(kind, 4 | 5) => content.extend(random.bytes(8)),
+        5 => {}
+        _ => content.push(size as u8),
+    }
+    for _ in 0..random.below(6) {
+        let code = random.below(declared.len() + 1);
+        content.push(code as u8);
+        if let Some(forms) = declared.get(code.wrapping_sub(1)) {
+            forms.iter().for_each(|form| value(random, &mut content, *form, &unit));
+        }
+    }
+    if word == 8 {
+        put(to, 0xffff_ffff, 4, is_big);
+    }
+    put(to, content.len() as u64, word, is_big);
+    to.extend(content);
+}
+
+fn of_entries(random: &mut Random) -> (Question, Vec<u8>) {
+    let (mut bytes, mut info, is_big) = (vec![], vec![], random.one_of(2));
+    let declared = declared(random, &mut bytes);
+    if random.one_of(8) {
+        mutate(random, &mut bytes);
+    }
+    let more = bytes.len();
+    for _ in 0..random.pick(&[1, 1, 2]) {
+        unit_of(random, &mut info, is_big, &declared);
+    }
+    if random.one_of(2) {
+        mutate(random, &mut info);
+    }
+    bytes.extend(info);
+    let what = random.pick(&[What::Entries, What::Entries, What::SkippedEntries]);
+    (Question { is_big, more, ..Question::new(what, 0) }, bytes)
+}
+
+/// A table, and this many units of its entries, whose attributes are as compilers' ones.
+pub fn made_entries(random: &mut Random, count: usize) -> (Vec<u8>, Vec<u8>) {
+    const SHAPES: [&[u16]; 6] = [
+        &[0x0e, 0x0b, 0x0b, 0x0b, 0x13, 0x13],
+        &[0x08, 0x0b, 0x05, 0x21, 0x13],
+        &[0x19, 0x0e, 0x0b, 0x0b, 0x01, 0x07, 0x18, 0x13],
+        &[0x13, 0x18],
+        &[0x0b, 0x0b, 0x0e],
+        &[0x17, 0x1f, 0x0f, 0x0d, 0x0a],
+    ];
+    let (mut abbrev, mut info) = (vec![], vec![]);
+    for (i, forms) in SHAPES.iter().enumerate() {
+        abbrev.extend([i as u8 + 1, 0x34, 0]);
+        for form in *forms {
+            abbrev.extend([0x03, *form as u8]);
+            abbrev.extend_from_slice(if *form == 0x21 { &[0x05] } else { &[] });
+        }
+        abbrev.extend([0, 0]);
+    }
+    abbrev.push(0);
+    let unit = Encoding { is_big: false, version: 5, size: 8, word: 4 };
+    for _ in 0..count {
+        let mut content = vec![5, 0, 1, 8, 0, 0, 0, 0];
+        for _ in 0..100 {
+            let shape = random.below(SHAPES.len());
+            content.push(shape as u8 + 1);
+            SHAPES[shape].iter().for_each(|form| value(random, &mut content, *form, &unit));
+            if random.one_of(4) {
+                content.push(0);
+            }
+        }
+        info.extend((content.len() as u32).to_le_bytes());
+        info.extend(content);
+    }
+    (abbrev, info)
+}
+
 /// The next question and its bytes.
 pub fn next(random: &mut Random) -> (Question, Vec<u8>) {
-    match random.below(16) {
+    match random.below(18) {
         0..=3 => {
             let what = random.pick(&[What::Unsigned, What::Signed, What::Short, What::Skipped]);
             (Question::new(what, 0), digits(random))
@@ -355,6 +515,7 @@ pub fn next(random: &mut Random) -> (Question, Vec<u8>) {
         7 | 8 => of_lookups(random),
         9 | 10 => of_sets(random),
         11 => of_units(random),
+        12 | 13 => of_entries(random),
         _ => of_tables(random),
     }
 }

@@ -22,7 +22,7 @@ mod theirs;
 use made::Random;
 use measure::Measured;
 use plain::PLANTS;
-use question::{Question, What};
+use question::{Answer, Question, What};
 use std::process::ExitCode;
 use std::time::{Duration, Instant};
 use tally::Tally;
@@ -60,6 +60,11 @@ struct Wanted {
     plants: Vec<usize>,
     /// How many errors can't be planted with this gimli.
     left_out: usize,
+}
+
+/// How many bytes of `.debug_abbrev` come before `.debug_info` in a section of this kind, if it is of entries.
+fn entries_after(kind: &str) -> Option<usize> {
+    kind.strip_suffix(BIG).unwrap_or(kind).strip_prefix("entries ")?.parse().ok()
 }
 
 fn from_hexadecimal(text: &str) -> Option<Vec<u8>> {
@@ -165,6 +170,31 @@ fn ask_everywhere(tally: &mut Tally, section: &(String, String, Vec<u8>), until:
     println!("{name} .{kind}: {asked} of {places} offsets");
 }
 
+/// Asks for the entries of each unit of a `.debug_info`, which follows this many bytes of `.debug_abbrev`, and skips them.
+/// Prints how many there was time for.
+fn ask_units(tally: &mut Tally, section: &(String, String, Vec<u8>), more: usize, until: Instant) {
+    let (name, kind, bytes) = section;
+    let (is_big, (abbrev, info)) = (kind.ends_with(BIG), bytes.split_at(more.min(bytes.len())));
+    let units = match plain::answer(&Question { is_big, ..Question::new(What::InfoUnits, 0) }, info) {
+        Answer::Units { units, .. } => units,
+        _ => vec![],
+    };
+    let mut asked = 0;
+    // (a prime, so that no unit comes twice)
+    for i in (0..units.len()).map(|it| it * 1_000_000_007 % units.len()) {
+        if Instant::now() >= until {
+            break;
+        }
+        let end = units[i].first_entry as usize + units[i].entries;
+        let bytes = [abbrev, &info[units[i].offset..end]].concat();
+        for what in [What::Entries, What::SkippedEntries] {
+            tally.ask(&Question { is_big, more: abbrev.len(), ..Question::new(what, 0) }, &bytes);
+        }
+        asked += 1;
+    }
+    println!("{name} entries: {asked} of {} units", units.len());
+}
+
 /// Plants an error in the second reader, and asks what is made until it is found or the time is over.
 fn is_found(plant: usize, wanted: &Wanted) -> bool {
     let name = PLANTS[plant];
@@ -205,7 +235,11 @@ fn compare(wanted: &Wanted) -> ExitCode {
     for (i, section) in wanted.sections.iter().enumerate() {
         let left = (wanted.seconds / 2.0 - start.elapsed().as_secs_f64()).max(0.0);
         let part = left / (wanted.sections.len() - i) as f64;
-        ask_everywhere(&mut tally, section, Instant::now() + Duration::from_secs_f64(part), &mut random);
+        let until = Instant::now() + Duration::from_secs_f64(part);
+        match entries_after(&section.1) {
+            Some(more) => ask_units(&mut tally, section, more, until),
+            None => ask_everywhere(&mut tally, section, until, &mut random),
+        }
     }
     while Instant::now() < end {
         for _ in 0..TURN {

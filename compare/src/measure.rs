@@ -6,7 +6,8 @@
 //! written numbers, which another feature has.
 
 use crate::cost::{hidden, nanos_of, page_faults, touched_bytes};
-use crate::made::{made_sets, put_signed, put_unsigned, shaped_table, Random};
+use crate::entries_after;
+use crate::made::{made_entries, made_sets, put_signed, put_unsigned, shaped_table, Random};
 use crate::plain;
 use crate::room::Room;
 use gimli::{
@@ -375,6 +376,105 @@ fn all_of_units(all: &mut Vec<Workload>) {
     all.push(workload("the header of a unit", count as usize, move || units_sum(s).unwrap(), ours));
 }
 
+/// What reads or skips the attributes of all entries: a sum of tags, and of the names and values that are read. Bytes
+/// count as how many there are.
+#[cfg(not(gimli_0_34))]
+#[inline(never)]
+fn entries_sum<const SKIPS: bool>(info: Bytes, abbrev: Bytes) -> gimli::Result<u64> {
+    let tables = DebugAbbrev::new(abbrev, LittleEndian);
+    let (mut units, mut sum) = (gimli::DebugInfo::new(info, LittleEndian).units(), 0u64);
+    while let Some(unit) = units.next()? {
+        let table = tables.abbreviations(unit.debug_abbrev_offset())?;
+        let mut entries = unit.entries_raw(&table, None)?;
+        while !entries.is_empty() {
+            let found = match entries.read_abbreviation()? {
+                Some(found) => found,
+                None => continue,
+            };
+            sum = sum.wrapping_add(found.tag().0.into());
+            if SKIPS {
+                entries.skip_attributes(found.attributes())?;
+                continue;
+            }
+            for spec in found.attributes() {
+                let it = entries.read_attribute(*spec)?;
+                sum = sum.wrapping_add(number_of(it.raw_value())).wrapping_add(it.name().0.into());
+            }
+        }
+    }
+    Ok(sum)
+}
+
+/// What a value counts as.
+#[cfg(not(gimli_0_34))]
+#[inline(always)]
+fn number_of(value: gimli::AttributeValue<Input>) -> u64 {
+    use gimli::AttributeValue::*;
+    match value {
+        Addr(x) | Data8(x) | Udata(x) => x,
+        Block(x) | String(x) => Reader::len(&x) as u64,
+        Exprloc(x) => Reader::len(&x.0) as u64,
+        Data1(x) => x.into(),
+        Data2(x) => x.into(),
+        Data4(x) => x.into(),
+        Sdata(x) => x as u64,
+        Flag(x) => x.into(),
+        SecOffset(x) => x as u64,
+        UnitRef(x) => x.0 as u64,
+        DebugInfoRef(x) | DebugInfoRefSup(x) => x.0 as u64,
+        DebugTypesRef(x) => x.0,
+        DebugStrRef(x) | DebugStrRefSup(x) => x.0 as u64,
+        DebugLineStrRef(x) => x.0 as u64,
+        DebugStrOffsetsIndex(x) => x.0 as u64,
+        DebugAddrIndex(x) => x.0 as u64,
+        DebugLocListsIndex(x) => x.0 as u64,
+        DebugRngListsIndex(x) => x.0 as u64,
+        _ => 0,
+    }
+}
+
+/// How many entries all units have, and how many attributes.
+#[cfg(not(gimli_0_34))]
+fn counts_of_entries(info: Bytes, abbrev: Bytes) -> gimli::Result<(usize, usize)> {
+    let tables = DebugAbbrev::new(abbrev, LittleEndian);
+    let (mut units, mut count, mut attributes) = (gimli::DebugInfo::new(info, LittleEndian).units(), 0, 0);
+    while let Some(unit) = units.next()? {
+        let table = tables.abbreviations(unit.debug_abbrev_offset())?;
+        let mut entries = unit.entries_raw(&table, None)?;
+        while !entries.is_empty() {
+            count += 1;
+            if let Some(found) = entries.read_abbreviation()? {
+                attributes += found.attributes().len();
+                entries.skip_attributes(found.attributes())?;
+            }
+        }
+    }
+    Ok((count, attributes))
+}
+
+/// Entries, with their tables, are read as gimli 0.27 does it, too.
+#[cfg(gimli_0_34)]
+fn of_entries(_name: &str, _abbrev: Bytes, _info: Bytes, _all: &mut Vec<Workload>) {}
+
+#[cfg(not(gimli_0_34))]
+fn of_entries(name: &str, abbrev: Bytes, info: Bytes, all: &mut Vec<Workload>) {
+    extern "C" {
+        fn compare_entries_read(info: Byte, info_len: usize, abbrev: Byte, abbrev_len: usize) -> u64;
+        fn compare_entries_skipped(info: Byte, info_len: usize, abbrev: Byte, abbrev_len: usize) -> u64;
+    }
+    let (entries, attributes) = match counts_of_entries(info, abbrev) {
+        Ok(counts) => counts,
+        Err(error) => return eprintln!("compare: the entries of {name} are left out: gimli says {error:?}"),
+    };
+    let (i, n, a, m) = (info.as_ptr() as usize, info.len(), abbrev.as_ptr() as usize, abbrev.len());
+    let ours = move || unsafe { compare_entries_read(i as Byte, n, a as Byte, m) };
+    let gimli = move || entries_sum::<false>(info, abbrev).unwrap();
+    all.push(workload(format!("an attribute of an entry, {name}"), attributes, gimli, ours));
+    let ours = move || unsafe { compare_entries_skipped(i as Byte, n, a as Byte, m) };
+    let gimli = move || entries_sum::<true>(info, abbrev).unwrap();
+    all.push(workload(format!("an entry skipped, {name}"), entries, gimli, ours));
+}
+
 fn made_strings(random: &mut Random) -> Vec<u8> {
     let mut text = vec![];
     for _ in 0..40_000 {
@@ -394,6 +494,12 @@ pub fn workloads(sections: &[(String, String, Vec<u8>)]) -> Vec<Workload> {
         match kind.as_str() {
             "debug_abbrev" => of_calls(name, bytes.clone(), plain::tables(bytes), &mut all),
             "debug_str" => of_strings(&format!("strings of {name}"), &mut random, bytes.clone(), &mut all),
+            kind if kind.starts_with("entries ") => {
+                let more = entries_after(kind).unwrap_or(0);
+                let both: Bytes = bytes.clone().leak();
+                let (abbrev, info) = both.split_at(more.min(both.len()));
+                of_entries(name, abbrev, info, &mut all);
+            }
             _ => {}
         }
     }
@@ -403,6 +509,8 @@ pub fn workloads(sections: &[(String, String, Vec<u8>)]) -> Vec<Workload> {
         all_of_lookups(&mut random, &mut all);
         all_of_sets(&mut random, &mut all);
         all_of_units(&mut all);
+        let (abbrev, info) = made_entries(&mut random, 4000);
+        of_entries("made-up units", abbrev.leak(), info.leak(), &mut all);
         let made = made_strings(&mut random);
         of_strings("made-up strings", &mut random, made, &mut all);
     }

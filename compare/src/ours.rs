@@ -6,7 +6,9 @@
 
 use crate::plain::{has, length_at, Plant};
 use crate::question;
-use crate::question::{error_name, fault_of_text, sum_of, Answer, Declaration, Question, What};
+use crate::question::{
+    error_name, fault_of_text, sum_of, Answer, Attribute, Declaration, Entry, Question, What, KINDS,
+};
 use crate::room::Room;
 use crate::sys::*;
 
@@ -19,6 +21,14 @@ struct Asked {
     size: u32,
     base: usize,
     index: usize,
+}
+
+/// What is asked of entries.
+#[repr(C)]
+struct AskedEntries {
+    reader: u32,
+    is_big: u32,
+    skips: u32,
 }
 
 type Byte = *const u8;
@@ -37,6 +47,10 @@ extern "C" {
     fn compare_addresses(bytes: Byte, len: usize) -> u64;
     fn compare_readers(
         bytes: Byte, len: usize, asked: &Asked, found: &mut [u64; 4], text: *mut u8, room: usize,
+    ) -> usize;
+    fn compare_entries(
+        info: Byte, info_len: usize, abbrev: Byte, abbrev_len: usize, asked: &AskedEntries, numbers: *mut u64,
+        number_room: usize, count: &mut usize, text: *mut u8, room: usize,
     ) -> usize;
     #[link_name = "dwarf_table_measure_0_3"]
     fn dwarf_table_measure(bytes: Byte, len: usize, offset: usize, measure: &mut Measure, fault: &mut Fault) -> u32;
@@ -81,6 +95,7 @@ impl Ours {
             }
             What::Addresses => Answer::value(unsafe { compare_addresses(data, len) }),
             What::InfoUnits | What::TypesUnits | What::UnitAt => units(question, bytes),
+            What::Entries | What::SkippedEntries => entries(1, question, bytes),
         }
     }
 
@@ -224,6 +239,55 @@ fn shown_unit(offset: usize, it: &Unit, bytes: &[u8]) -> question::Unit {
     }
 }
 
+/// The entries of all units, by one of the readers.
+fn entries(reader: u32, question: &Question, bytes: &[u8]) -> Answer {
+    let skips = question.what == What::SkippedEntries;
+    let asked = AskedEntries { reader, is_big: question.is_big.into(), skips: skips.into() };
+    let (abbrev, info) = question.sections(bytes);
+    let (mut numbers, mut count, mut text) = (vec![0; 256], 0, [0; 100]);
+    loop {
+        let (room, text_room) = (numbers.len(), text.len());
+        let (to, text_to) = (numbers.as_mut_ptr(), text.as_mut_ptr());
+        let (data, len, tables, tables_len) = (info.as_ptr(), info.len(), abbrev.as_ptr(), abbrev.len());
+        let len =
+            unsafe { compare_entries(data, len, tables, tables_len, &asked, to, room, &mut count, text_to, text_room) };
+        if count <= room {
+            let text = String::from_utf8_lossy(text.get(..len).unwrap_or_default());
+            let error = (len != 0).then(|| fault_of_text(&text, None)).and_then(Answer::error);
+            let (entries, stop) = entries_of(&numbers[..count]);
+            return Answer::Entries { entries, stop, error };
+        }
+        numbers = vec![0; count];
+    }
+}
+
+/// The entries that these numbers are, and where the last unit's reader is.
+fn entries_of(mut numbers: &[u64]) -> (Vec<Entry>, Option<u64>) {
+    let (mut entries, mut stop) = (vec![], None);
+    loop {
+        match *numbers {
+            [1, offset, code, count, ref rest @ ..] => {
+                // (an error leaves attributes out, and is followed by the two numbers of a unit's end alone)
+                let count = (count as usize).min(rest.len().saturating_sub(2) / 5);
+                let (values, rest) = rest.split_at(5 * count);
+                let shown = |it: &[u64]| Attribute {
+                    name: it[0] as u16,
+                    form: it[1] as u16,
+                    kind: KINDS[it[2] as usize],
+                    value: [it[3], it[4]],
+                };
+                entries.push(Entry { offset, code, attributes: values.chunks(5).map(shown).collect() });
+                numbers = rest;
+            }
+            [_, offset, ref rest @ ..] => {
+                stop = Some(offset);
+                numbers = rest;
+            }
+            _ => return (entries, stop),
+        }
+    }
+}
+
 /// What a reader is asked.
 fn asked(reader: u32, question: &Question) -> Asked {
     let Question { what, is_big, size, at, more, .. } = *question;
@@ -240,6 +304,16 @@ const PLANTS: [Plant; READERS.len()] = [Plant::BigReader, Plant::RunTimeReader, 
 /// What each of them finds that doesn't find the same.
 pub fn by_readers(question: &Question, bytes: &[u8], ours: &Answer) -> Vec<(&'static str, Answer)> {
     let (mut differing, wanted) = (vec![], ours.in_parts());
+    if matches!(question.what, What::Entries | What::SkippedEntries) {
+        for (reader, name) in READERS.iter().enumerate() {
+            let found = entries(reader as u32, question, bytes);
+            let is_refused = *name == OWNED && found.reached() == "UnsupportedOffset";
+            if !found.agrees(ours) && !is_refused {
+                differing.push((*name, found));
+            }
+        }
+        return differing;
+    }
     for (reader, name) in READERS.iter().enumerate() {
         if let Some(found) = by_reader(reader as u32, question, bytes) {
             let is_refused = *name == OWNED && matches!(found, Answer::Fault { kind: "UnsupportedOffset", .. });

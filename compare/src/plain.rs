@@ -1,10 +1,13 @@
-//! A second reader, written from the text of the standard: DWARF 5, 7.4, 7.5.1, 7.5.3, 7.26 and 7.27, and DWARF 4,
+//! A second reader, written from the text of the standard: DWARF 5, 7.4, 7.5.1 to 7.5.6, 7.26 and 7.27, and DWARF 4,
 //! 7.5.1.1 and 7.6.
 //!
 //! It is plain, and slow where that is plainer. It shares nothing with the library. The standard doesn't say which
 //! error a reader gives of bytes that are malformed, nor where; that is as the library's documentation says.
 
-use crate::question::{sum_of, Answer, Declaration, Question, Unit, What};
+use crate::question::{
+    sum_of, Answer, Attribute, Declaration, Entry, Question, Unit, What, INVALID_CODE, INVALID_IMPLICIT_CONST,
+    UNKNOWN_FORM,
+};
 use crate::sys::Set;
 use std::collections::BTreeMap;
 use std::sync::atomic::{AtomicUsize, Ordering::Relaxed};
@@ -74,6 +77,22 @@ plants! {
     TypeUnit "type-unit",
     /// The entries of a unit begin where its own fields do.
     Entries "entries",
+    /// An index of a string has four bytes where its form says three.
+    ThreeBytes "three-bytes",
+    /// A form that an entry has isn't indirect again.
+    Indirect "indirect",
+    /// The constant of an abbreviation is 0.
+    Implicit "implicit",
+    /// An offset into `.debug_info` is a word in version 2 too.
+    Reference "reference",
+    /// The bytes of a block begin where their number does.
+    Block "block",
+    /// The code 0 ends the entries of a unit.
+    NullEntry "null-entry",
+    /// Offsets in a unit count from its first entry.
+    EntryOffset "entry-offset",
+    /// A LEB128 number that is skipped has at most ten bytes.
+    Judged "judged",
     /// gimli's result of a number leaves one byte more. This one is planted where gimli is called.
     Gimli "gimli",
     /// Each of gimli's other results is another one, where gimli is called: a table or a list lacks its last row, and a
@@ -193,6 +212,26 @@ impl Input<'_> {
     }
 }
 
+impl Input<'_> {
+    /// A number of sixteen bytes, in two halves, the lower first.
+    fn sixteen(&mut self, is_big: bool) -> Result<[u64; 2], Fault> {
+        if self.bytes.len() - self.at < 16 {
+            return Err(eof(self.at));
+        }
+        let halves = [self.fixed(8, is_big)?, self.fixed(8, is_big)?];
+        Ok(if is_big { [halves[1], halves[0]] } else { halves })
+    }
+
+    /// That many bytes, of any number, which aren't looked at.
+    fn skipped(&mut self, size: usize) -> Result<u64, Fault> {
+        if self.bytes.len() - self.at < size {
+            return Err(eof(self.at));
+        }
+        self.at += size;
+        Ok(0)
+    }
+}
+
 /// What the standard says.
 pub fn answer(question: &Question, bytes: &[u8]) -> Answer {
     found(question, bytes).unwrap_or_else(|(kind, value)| Answer::Fault { kind, value: Some(value), rest: None })
@@ -234,6 +273,7 @@ fn found(question: &Question, bytes: &[u8]) -> Result<Answer, Fault> {
         What::AddressSet | What::StrOffsetSet => set(bytes, is_big, at, what == What::AddressSet)?,
         What::Addresses => Answer::value(addresses(bytes).unwrap_or(0)),
         What::InfoUnits | What::TypesUnits | What::UnitAt => units(question, bytes, false),
+        What::Entries | What::SkippedEntries => entries(question, bytes, false),
     })
 }
 
@@ -508,4 +548,208 @@ fn unit(bytes: &[u8], offset: usize, is_big: bool, own_type: u8, takes_any: bool
     let entries = &rest.bytes[first..];
     let (first_entry, count, sum) = (first as u64, entries.len(), sum_of(entries));
     Ok((Unit { unit_type, first_entry, entries: count, sum, ..found }, next))
+}
+
+/// How a value is encoded.
+#[derive(Clone, Copy)]
+enum Coding {
+    /// A number of that many bytes.
+    Fixed(usize),
+    Unsigned,
+    Signed,
+    /// A number that has the size of an address.
+    Address,
+    /// An offset of the format's size.
+    Word,
+    /// An offset into `.debug_info`.
+    Reference,
+    /// That many bytes say how many follow, or a LEB128 number for 0.
+    Counted(usize),
+    /// Bytes up to a zero byte.
+    Text,
+    /// Nothing.
+    Present,
+    /// Nothing, and the abbreviation has the value.
+    Constant,
+}
+
+use Coding::{Address, Constant, Counted, Fixed, Present, Reference, Signed, Text, Unsigned, Word};
+
+const DW_FORM_INDIRECT: u16 = 0x16;
+
+/// The forms, the kinds of their values, and how these are encoded (7.5.6), with those of GNU.
+const FORMS: [(u16, &str, Coding); 46] = [
+    (0x01, "Addr", Address),
+    (0x03, "Block", Counted(2)),
+    (0x04, "Block", Counted(4)),
+    (0x05, "Data2", Fixed(2)),
+    (0x06, "Data4", Fixed(4)),
+    (0x07, "Data8", Fixed(8)),
+    (0x08, "String", Text),
+    (0x09, "Block", Counted(0)),
+    (0x0a, "Block", Counted(1)),
+    (0x0b, "Data1", Fixed(1)),
+    (0x0c, "Flag", Fixed(1)),
+    (0x0d, "Sdata", Signed),
+    (0x0e, "DebugStrRef", Word),
+    (0x0f, "Udata", Unsigned),
+    (0x10, "DebugInfoRef", Reference),
+    (0x11, "UnitRef", Fixed(1)),
+    (0x12, "UnitRef", Fixed(2)),
+    (0x13, "UnitRef", Fixed(4)),
+    (0x14, "UnitRef", Fixed(8)),
+    (0x15, "UnitRef", Unsigned),
+    (0x17, "SecOffset", Word),
+    (0x18, "Exprloc", Counted(0)),
+    (0x19, "Flag", Present),
+    (0x1a, "DebugStrOffsetsIndex", Unsigned),
+    (0x1b, "DebugAddrIndex", Unsigned),
+    (0x1c, "DebugInfoRefSup", Fixed(4)),
+    (0x1d, "DebugStrRefSup", Word),
+    (0x1e, "Data16", Fixed(16)),
+    (0x1f, "DebugLineStrRef", Word),
+    (0x20, "DebugTypesRef", Fixed(8)),
+    (0x21, "Sdata", Constant),
+    (0x22, "DebugLocListsIndex", Unsigned),
+    (0x23, "DebugRngListsIndex", Unsigned),
+    (0x24, "DebugInfoRefSup", Fixed(8)),
+    (0x25, "DebugStrOffsetsIndex", Fixed(1)),
+    (0x26, "DebugStrOffsetsIndex", Fixed(2)),
+    (0x27, "DebugStrOffsetsIndex", Fixed(3)),
+    (0x28, "DebugStrOffsetsIndex", Fixed(4)),
+    (0x29, "DebugAddrIndex", Fixed(1)),
+    (0x2a, "DebugAddrIndex", Fixed(2)),
+    (0x2b, "DebugAddrIndex", Fixed(3)),
+    (0x2c, "DebugAddrIndex", Fixed(4)),
+    (0x1f01, "DebugAddrIndex", Unsigned),
+    (0x1f02, "DebugStrOffsetsIndex", Unsigned),
+    (0x1f20, "DebugInfoRefSup", Word),
+    (0x1f21, "DebugStrRefSup", Word),
+];
+
+/// The entries of all units of a section, and the error after them. Addresses of units have a valid size, or any.
+pub fn entries(question: &Question, bytes: &[u8], takes_any_size: bool) -> Answer {
+    let (abbrev, info) = question.sections(bytes);
+    let skips = question.what == What::SkippedEntries;
+    let (mut entries, mut stop, mut offset) = (vec![], None, 0);
+    let mut next = || -> Result<(), Fault> {
+        while offset < info.len() {
+            let (found, next) = unit(info, offset, question.is_big, 1, takes_any_size)?;
+            let (by_code, _) = table(abbrev, found.abbrev_offset)?;
+            let first = found.first_entry as usize;
+            let mut input = Input { bytes: &info[..next], at: first };
+            let start = if has(Plant::EntryOffset) { first } else { offset };
+            let read = entries_of_unit(&mut input, &by_code, &found, start, (question.is_big, skips), &mut entries);
+            stop = Some((input.at - start) as u64);
+            read?;
+            offset = next;
+        }
+        Ok(())
+    };
+    let error = next().err().map(|(kind, value)| (kind, Some(value)));
+    Answer::Entries { entries, stop, error }
+}
+
+/// The entries of a unit, which begins at `start`, up to an error.
+fn entries_of_unit(
+    input: &mut Input, by_code: &BTreeMap<u64, Declaration>, unit: &Unit, start: usize, (is_big, skips): (bool, bool),
+    to: &mut Vec<Entry>,
+) -> Result<(), Fault> {
+    while input.at < input.bytes.len() {
+        let offset = (input.at - start) as u64;
+        let code = input.long()?;
+        if code == 0 {
+            to.push(Entry { offset, code, attributes: vec![] });
+            if has(Plant::NullEntry) {
+                return Ok(());
+            }
+            continue;
+        }
+        let declared = by_code.get(&code).ok_or((INVALID_CODE, code))?;
+        to.push(Entry { offset, code, attributes: vec![] });
+        for (name, form, constant) in &declared.attributes {
+            let (form, constant) = form_of(input, *form, *constant)?;
+            let (kind, value) = value(input, unit, is_big, form, constant, skips)?;
+            if !skips {
+                let last = to.last_mut().expect("an entry was pushed");
+                last.attributes.push(Attribute { name: *name, form, kind, value });
+            }
+        }
+    }
+    Ok(())
+}
+
+/// The form of a value (7.5.3), and the constant of its abbreviation, if the form is the abbreviation's own.
+fn form_of(input: &mut Input, form: u16, constant: i64) -> Result<(u16, Option<i64>), Fault> {
+    if form != DW_FORM_INDIRECT {
+        return Ok((form, (form == DW_FORM_IMPLICIT_CONST).then_some(constant)));
+    }
+    let mut form = input.short()?;
+    while form == DW_FORM_INDIRECT && !has(Plant::Indirect) {
+        form = input.short()?;
+    }
+    Ok((form, None))
+}
+
+/// The kind of a value, and the value. One that is skipped isn't judged.
+fn value(
+    input: &mut Input, unit: &Unit, is_big: bool, form: u16, constant: Option<i64>, skips: bool,
+) -> Result<(&'static str, [u64; 2]), Fault> {
+    let (_, kind, coding) = *FORMS.iter().find(|it| it.0 == form).ok_or((UNKNOWN_FORM, form.into()))?;
+    let size = usize::from(unit.address_size);
+    let word = usize::from(unit.word_size);
+    let is_by_address = unit.version == 2 && !has(Plant::Reference);
+    let number = match coding {
+        Unsigned | Signed if skips => {
+            let digits = input.digits(if has(Plant::Judged) { 10 } else { usize::MAX })?;
+            if digits[digits.len() - 1] >= 128 {
+                return Err(BAD_UNSIGNED);
+            }
+            0
+        }
+        Constant if skips => 0,
+        Address if skips => input.skipped(size)?,
+        Reference if skips => input.skipped(if is_by_address { size } else { word })?,
+        Fixed(16) => return Ok((kind, input.sixteen(is_big)?)),
+        Fixed(3) if kind == "DebugStrOffsetsIndex" && has(Plant::ThreeBytes) => input.fixed(4, is_big)?,
+        Fixed(size) => input.fixed(size, is_big)?,
+        Unsigned => input.long()?,
+        Signed => input.signed()? as u64,
+        Address if !is_size(unit.address_size) => return Err(("UnsupportedAddressSize", size as u64)),
+        Address => input.fixed(size, is_big)?,
+        Reference if is_by_address && !is_size(unit.address_size) => {
+            return Err(("UnsupportedOffsetSize", size as u64));
+        }
+        Reference if is_by_address => input.fixed(size, is_big)?,
+        Word | Reference => input.fixed(word, is_big)?,
+        Present => 1,
+        Constant => match constant {
+            Some(constant) if !has(Plant::Implicit) => constant as u64,
+            Some(_) => 0,
+            None => return Err((INVALID_IMPLICIT_CONST, 0)),
+        },
+        Counted(size) => return Ok((kind, block(input, size, is_big)?)),
+        Text => return Ok((kind, text(input)?)),
+    };
+    Ok((kind, [if kind == "Flag" { (number != 0).into() } else { number }, 0]))
+}
+
+/// The position of bytes, whose number comes first, and how many they are.
+fn block(input: &mut Input, size: usize, is_big: bool) -> Result<[u64; 2], Fault> {
+    let start = input.at;
+    let count = if size == 0 { input.long()? } else { input.fixed(size, is_big)? };
+    let first = input.at;
+    if count > (input.bytes.len() - first) as u64 {
+        return Err(eof(first));
+    }
+    input.at += count as usize;
+    Ok([if has(Plant::Block) { start } else { first } as u64, count])
+}
+
+/// The position of a string, and how many bytes it has before its zero byte.
+fn text(input: &mut Input) -> Result<[u64; 2], Fault> {
+    let first = input.at;
+    let len = input.bytes[first..].iter().position(|it| *it == 0).ok_or_else(|| eof(first))?;
+    input.at += len + 1;
+    Ok([first as u64, len as u64])
 }

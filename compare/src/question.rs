@@ -29,23 +29,32 @@ pub const ERRORS: &[&str] = &[
     "UnknownUnitType",
 ];
 
+/// The errors that no call for C returns, so that they have no number.
+const UNNUMBERED: [&str; 3] = [UNKNOWN_FORM, INVALID_CODE, INVALID_IMPLICIT_CONST];
+
 /// The name of an error by its number.
 pub fn error_name(number: u32) -> &'static str {
     ERRORS.get(number as usize).copied().unwrap_or("a number without an error")
 }
 
 /// The names of errors that older versions of gimli have, and today's.
-const OLD_NAMES: [(&str, &str); 3] = [
+const OLD_NAMES: [(&str, &str); 4] = [
     ("BadHasChildren", "InvalidAbbreviationChildren"),
     ("ExpectedZero", "AttributeNameZero"),
     ("UnsupportedUnitType", "UnknownUnitType"),
+    ("UnknownAbbreviation", INVALID_CODE),
 ];
+
+/// The errors of entries alone.
+pub const UNKNOWN_FORM: &str = "UnknownForm";
+pub const INVALID_CODE: &str = "InvalidAbbreviationCode";
+pub const INVALID_IMPLICIT_CONST: &str = "InvalidImplicitConst";
 
 /// An error as its debug text tells it: its name, and the number in it, if there is one.
 pub fn fault_of_text(text: &str, rest: Option<usize>) -> Answer {
     let name = text.split('(').next().unwrap_or_default();
     let name = OLD_NAMES.iter().find(|it| it.0 == name).map_or(name, |it| it.1);
-    let known = ERRORS.iter().find(|it| **it == name);
+    let known = ERRORS.iter().chain(&UNNUMBERED).find(|it| **it == name);
     let kind = known.copied().unwrap_or("an error without a number");
     let value = text.rsplit('(').next().and_then(|it| it.trim_end_matches(')').parse().ok());
     Answer::Fault { kind, value, rest }
@@ -87,6 +96,10 @@ whats! {
     InfoUnits "units",
     TypesUnits "type-units",
     UnitAt "unit-at",
+    /// The entries of the units of a `.debug_info`, which follows `more` bytes of `.debug_abbrev`: with their
+    /// attributes, or without those, which are skipped.
+    Entries "entries",
+    SkippedEntries "skipped-entries",
     /// The length of the table of a cache that was filled from this many bytes, before the section grew.
     Grown "grown",
     /// How many declarations a cache that was filled at these offsets has there, twice. An error counts as 2^32.
@@ -107,7 +120,8 @@ pub struct Question {
     pub size: u8,
     /// An offset or a base, in bytes from the first byte of the input.
     pub at: usize,
-    /// An index, or how many bytes there were before the section grew, or the number that is written.
+    /// An index, or how many bytes there were before the section grew or belong to a first section, or the number that
+    /// is written.
     pub more: usize,
     /// Codes or offsets.
     pub list: Vec<u64>,
@@ -152,6 +166,58 @@ pub struct Unit {
     pub unit_type: u8,
 }
 
+/// The kinds of values, as `crates/dwarf_compare/src/entries.rt` numbers them.
+pub const KINDS: [&str; 24] = [
+    "Addr",
+    BLOCK,
+    "Data1",
+    "Data2",
+    DATA4,
+    DATA8,
+    DATA16,
+    "Sdata",
+    "Udata",
+    "Exprloc",
+    "Flag",
+    "SecOffset",
+    "UnitRef",
+    "DebugInfoRef",
+    "DebugInfoRefSup",
+    "DebugTypesRef",
+    "DebugStrRef",
+    "DebugStrRefSup",
+    "DebugLineStrRef",
+    "DebugStrOffsetsIndex",
+    "DebugAddrIndex",
+    "DebugLocListsIndex",
+    "DebugRngListsIndex",
+    "String",
+];
+
+/// Those that this gimli and the library name otherwise.
+pub const BLOCK: &str = "Block";
+pub const DATA4: &str = "Data4";
+pub const DATA8: &str = "Data8";
+pub const DATA16: &str = "Data16";
+
+/// An attribute of an entry: its value is a number and the half above it, or the position of bytes and how many there
+/// are.
+#[derive(Debug, Clone, PartialEq)]
+pub struct Attribute {
+    pub name: u16,
+    pub form: u16,
+    pub kind: &'static str,
+    pub value: [u64; 2],
+}
+
+/// An entry: where it begins in its unit, the code of its abbreviation, which is 0 for a null entry, and its attributes.
+#[derive(Debug, Clone, PartialEq)]
+pub struct Entry {
+    pub offset: u64,
+    pub code: u64,
+    pub attributes: Vec<Attribute>,
+}
+
 /// A sum of bytes that depends on their order.
 pub fn sum_of(bytes: &[u8]) -> u64 {
     bytes.iter().fold(0, |sum: u64, it| sum.wrapping_mul(31).wrapping_add((*it).into()))
@@ -176,6 +242,12 @@ pub enum Answer {
     /// The units up to the section's end, or up to an error by its name, with its value or position.
     Units {
         units: Vec<Unit>,
+        error: Option<(&'static str, Option<u64>)>,
+    },
+    /// The entries up to the section's end, or up to an error, and where in the last unit the next one would begin.
+    Entries {
+        entries: Vec<Entry>,
+        stop: Option<u64>,
         error: Option<(&'static str, Option<u64>)>,
     },
     /// There is no set, since the offset is the section's end.
@@ -211,11 +283,15 @@ impl Answer {
 
     /// These units, and the error after them, if there is one.
     pub fn units(units: Vec<Unit>, fault: Option<Answer>) -> Answer {
-        let error = match fault {
-            Some(Answer::Fault { kind, value, .. }) => Some((kind, value)),
+        Answer::Units { units, error: fault.and_then(Answer::error) }
+    }
+
+    /// The name of an error, and its value.
+    pub fn error(self) -> Option<(&'static str, Option<u64>)> {
+        match self {
+            Answer::Fault { kind, value, .. } => Some((kind, value)),
             _ => None,
-        };
-        Answer::Units { units, error }
+        }
     }
 
     /// Whether two readers tell the same, as far as both tell it.
@@ -231,6 +307,14 @@ impl Answer {
             (Answer::Units { units, error }, Answer::Units { units: others, error: other }) => {
                 let (value, other_value) = (error.and_then(|it| it.1), other.and_then(|it| it.1));
                 units == others && error.map(|it| it.0) == other.map(|it| it.0) && same_if_known(&value, &other_value)
+            }
+            (
+                Answer::Entries { entries, stop, error },
+                Answer::Entries { entries: others, stop: other_stop, error: other },
+            ) => {
+                let (value, other_value) = (error.and_then(|it| it.1), other.and_then(|it| it.1));
+                let is_same = same_if_known(stop, other_stop) && same_if_known(&value, &other_value);
+                is_same && entries == others && error.map(|it| it.0) == other.map(|it| it.0)
             }
             _ => self == other,
         }
@@ -265,7 +349,11 @@ impl Answer {
             Answer::Tags(tags) if tags.iter().all(|it| *it == 0) => "only codes that no declaration has",
             Answer::Tags(_) => "a tag of a code",
             Answer::Set(_) => "a set",
-            Answer::Units { error: Some((kind, _)), .. } => kind,
+            Answer::Units { error: Some((kind, _)), .. } | Answer::Entries { error: Some((kind, _)), .. } => kind,
+            Answer::Entries { entries, .. } => {
+                let last = entries.iter().flat_map(|it| &it.attributes).last();
+                last.map_or(if entries.is_empty() { "no entries" } else { "no attributes" }, |it| it.kind)
+            }
             Answer::Units { units, .. } => units.last().map_or("no units", |it| UNIT_TYPES[usize::from(it.unit_type)]),
             Answer::End => "the end of the sets",
             Answer::Parts(_) => "parts",
@@ -292,6 +380,11 @@ impl Question {
     /// The question about an offset.
     pub fn new(what: What, at: usize) -> Question {
         Question { what, is_big: false, size: 0, at, more: 0, list: vec![] }
+    }
+
+    /// The two sections of a question about entries: `.debug_abbrev` and `.debug_info`.
+    pub fn sections<'a>(&self, bytes: &'a [u8]) -> (&'a [u8], &'a [u8]) {
+        bytes.split_at(self.more.min(bytes.len()))
     }
 
     /// The first word that asks it once more.

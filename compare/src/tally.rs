@@ -80,7 +80,7 @@ impl Tally {
         self.inputs += 1;
         self.by_all += u64::from(is_by_all);
         self.asked_of_gimli += u64::from(given.theirs.is_some());
-        let is_of_units = matches!(given.ours, Answer::Units { .. });
+        let is_of_units = matches!(given.ours, Answer::Units { .. } | Answer::Entries { .. });
         self.of_any_size += u64::from(is_of_units && given.wanted != given.ours);
         let counts = self.questions.entry(question.name()).or_default();
         counts.0 += 1;
@@ -125,7 +125,7 @@ impl Tally {
             skipped += 1;
         }
         if !HAS_UNITS {
-            println!("left out: units are compared with gimli 0.27, so the second reader alone had them");
+            println!("left out: units and entries are compared with gimli 0.27, so the second reader alone had them");
             skipped += 1;
         }
         if self.theirs.takes_any_size {

@@ -1,18 +1,21 @@
 //! The published gimli, as far as the version at hand has what is asked.
 
-use crate::plain::{has, units as plain_units, Plant};
+use crate::plain::{entries as plain_entries, has, units as plain_units, Plant};
 use crate::question::{fault_of_text, Answer, Declaration, Question, What};
 #[cfg(not(gimli_0_34))]
-use crate::question::{sum_of, Unit};
+use crate::question::{sum_of, Attribute, Entry, Unit, BLOCK, DATA16, DATA4, DATA8};
 #[cfg(gimli_0_34)]
 use crate::{measure::sets_sum, sys::Set};
+#[cfg(not(gimli_0_34))]
+use gimli::{
+    AttributeSpecification, AttributeValue, DebugInfo, DebugInfoOffset, DebugTypes, EntriesRaw, UnitHeader, UnitOffset,
+    UnitSectionOffset, UnitType,
+};
 use gimli::{
     DebugAbbrev, DebugAbbrevOffset, DebugAddr, DebugAddrBase, DebugAddrIndex, DebugStr, DebugStrOffset,
     DebugStrOffsets, DebugStrOffsetsBase, DebugStrOffsetsIndex, EndianSlice, Error, Format, LittleEndian, Reader,
     RunTimeEndian,
 };
-#[cfg(not(gimli_0_34))]
-use gimli::{DebugInfo, DebugInfoOffset, DebugTypes, UnitHeader, UnitOffset, UnitSectionOffset, UnitType};
 
 /// gimli, and what its version reads otherwise.
 #[derive(Default)]
@@ -46,6 +49,7 @@ impl Theirs {
             What::Unsigned | What::Signed | What::Short | What::Skipped => return Some(number(question.what, bytes)),
             What::Table => table().map(|it| shown(&it, plain)),
             What::Found => table().map(|it| Answer::Tags(question.list.iter().map(|code| tag(&it, code)).collect())),
+            What::Entries | What::SkippedEntries => return entries(question, bytes, self.is_strict),
             _ => return lookup(question, bytes),
         };
         Some(found.unwrap_or_else(|error| fault(error, bytes, None)))
@@ -53,7 +57,7 @@ impl Theirs {
 
     /// The result that gimli has to agree with if the library's result is this one: a table that the section's end
     /// closes is an error in a version that needs the null code, and an address size that the library rejects is none
-    /// in a version that takes any, which reads on.
+    /// in a version that takes any, which reads on. So do entries.
     pub fn wanted(&self, question: &Question, bytes: &[u8], ours: Answer) -> Answer {
         let is_unclosed = match (question.what, &ours) {
             (What::Table, Answer::Table { close, .. }) => matches!(close, Some((false, _))),
@@ -67,11 +71,16 @@ impl Theirs {
         if self.is_strict && is_unclosed {
             return Answer::Fault { kind: "UnexpectedEof", value: Some(bytes.len() as u64), rest: None };
         }
-        let is_of_size = matches!(ours, Answer::Units { error: Some(("UnsupportedAddressSize", _)), .. });
-        if self.takes_any_size && is_of_size && !has(Plant::AnySize) {
-            return plain_units(question, bytes, true);
+        let any_size = self.takes_any_size && !has(Plant::AnySize);
+        match ours {
+            Answer::Units { error: Some(("UnsupportedAddressSize", _)), .. } if any_size => {
+                plain_units(question, bytes, true)
+            }
+            Answer::Entries { error: Some(("UnsupportedAddressSize", _)), .. } if any_size => {
+                plain_entries(question, bytes, true)
+            }
+            _ => ours,
         }
-        ours
     }
 }
 
@@ -263,4 +272,132 @@ fn shown_unit(unit: &UnitHeader<EndianSlice<RunTimeEndian>>, bytes: &[u8]) -> Un
         address_size: encoding.address_size,
         unit_type,
     }
+}
+
+#[cfg(gimli_0_34)]
+fn entries(_question: &Question, _bytes: &[u8], _is_strict: bool) -> Option<Answer> {
+    None
+}
+
+#[cfg(not(gimli_0_34))]
+type Slice<'a> = EndianSlice<'a, RunTimeEndian>;
+
+/// The entries of all units, or `None` where gimli isn't asked: of a table that needs its null code, and of attributes to
+/// skip that may be longer together than any section, since it adds up how many bytes they have without a check.
+#[cfg(not(gimli_0_34))]
+fn entries(question: &Question, bytes: &[u8], is_strict: bool) -> Option<Answer> {
+    let (abbrev, info) = question.sections(bytes);
+    let skips = question.what == What::SkippedEntries;
+    if skips && info.windows(9).any(|it| it.iter().all(|byte| *byte >= 128)) {
+        return None;
+    }
+    let order = if question.is_big { RunTimeEndian::Big } else { RunTimeEndian::Little };
+    let mut units = DebugInfo::new(info, order).units();
+    let (mut entries, mut stop) = (vec![], None);
+    let found = loop {
+        let unit = match units.next() {
+            Ok(Some(unit)) => unit,
+            Ok(None) => break None,
+            Err(error) => break Some(error),
+        };
+        let offset = unit.debug_abbrev_offset();
+        if is_strict && crate::ours::strict(abbrev, offset.0).reached() == "UnterminatedAbbreviations" {
+            return None;
+        }
+        let table = match DebugAbbrev::new(abbrev, LittleEndian).abbreviations(offset) {
+            Ok(table) => table,
+            Err(error) => return Some(Answer::Entries { entries, stop, error: fault(error, abbrev, None).error() }),
+        };
+        let mut raw = unit.entries_raw(&table, None).ok()?;
+        let read = of_unit(&unit, &mut raw, info, skips, &mut entries);
+        stop = Some(raw.next_offset().0 as u64);
+        if let Err(error) = read {
+            break Some(error);
+        }
+    };
+    let mut error = found.and_then(|it| fault(it, info, None).error());
+    // gimli skips several values at once, and stops where the first of them begins.
+    if skips && error.is_some() {
+        stop = None;
+        error = error.map(|it| (it.0, None));
+    }
+    Some(Answer::Entries { entries, stop, error })
+}
+
+/// The entries of a unit, up to an error.
+#[cfg(not(gimli_0_34))]
+fn of_unit(
+    unit: &UnitHeader<Slice>, raw: &mut EntriesRaw<Slice>, info: &[u8], skips: bool, to: &mut Vec<Entry>,
+) -> gimli::Result<()> {
+    while !raw.is_empty() {
+        let offset = raw.next_offset().0 as u64;
+        let found = raw.read_abbreviation()?;
+        let code = found.map_or(0, |it| it.code());
+        to.push(Entry { offset, code, attributes: vec![] });
+        let specs = found.map_or(&[][..], |it| it.attributes());
+        if skips {
+            raw.skip_attributes(specs)?;
+            continue;
+        }
+        for spec in specs {
+            let form = form_of(unit, raw, spec);
+            let found = raw.read_attribute(*spec)?;
+            let (kind, value) = shown_value(found.raw_value(), form, info);
+            let last = to.last_mut().expect("an entry was pushed");
+            last.attributes.push(Attribute { name: found.name().0, form, kind, value });
+        }
+    }
+    Ok(())
+}
+
+/// The form of the next attribute, or 0 if the number in its place is none. gimli doesn't keep it.
+#[cfg(not(gimli_0_34))]
+fn form_of(unit: &UnitHeader<Slice>, raw: &EntriesRaw<Slice>, spec: &AttributeSpecification) -> u16 {
+    let (mut form, mut ahead) = (spec.form().0, unit.range_from(raw.next_offset()..));
+    while form == gimli::DW_FORM_indirect.0 {
+        form = ahead.as_mut().map_or(0, |it| it.read_uleb128_u16().unwrap_or(0));
+    }
+    form
+}
+
+/// A value, as the library has it: gimli takes constants of versions 2 and 3 for offsets if their names allow that, and
+/// sixteen bytes for a block.
+#[cfg(not(gimli_0_34))]
+fn shown_value(value: AttributeValue<Slice>, form: u16, info: &[u8]) -> (&'static str, [u64; 2]) {
+    let place = |it: Slice| [(it.slice().as_ptr() as u64).wrapping_sub(info.as_ptr() as u64), it.len() as u64];
+    let (kind, number) = match value {
+        AttributeValue::SecOffset(x) if form == gimli::DW_FORM_data4.0 => (DATA4, x as u64),
+        AttributeValue::SecOffset(x) if form == gimli::DW_FORM_data8.0 => (DATA8, x as u64),
+        AttributeValue::Block(x) if form == gimli::DW_FORM_data16.0 => {
+            let mut halves = x;
+            let both = [halves.read_u64().unwrap_or(0), halves.read_u64().unwrap_or(0)];
+            let is_big = x.endian() == RunTimeEndian::Big;
+            return (DATA16, if is_big { [both[1], both[0]] } else { both });
+        }
+        AttributeValue::Block(x) => return (BLOCK, place(x)),
+        AttributeValue::Exprloc(x) => return ("Exprloc", place(x.0)),
+        AttributeValue::String(x) => return ("String", place(x)),
+        AttributeValue::Addr(x) => ("Addr", x),
+        AttributeValue::Data1(x) => ("Data1", x.into()),
+        AttributeValue::Data2(x) => ("Data2", x.into()),
+        AttributeValue::Data4(x) => (DATA4, x.into()),
+        AttributeValue::Data8(x) => (DATA8, x),
+        AttributeValue::Sdata(x) => ("Sdata", x as u64),
+        AttributeValue::Udata(x) => ("Udata", x),
+        AttributeValue::Flag(x) => ("Flag", x.into()),
+        AttributeValue::SecOffset(x) => ("SecOffset", x as u64),
+        AttributeValue::UnitRef(x) => ("UnitRef", x.0 as u64),
+        AttributeValue::DebugInfoRef(x) => ("DebugInfoRef", x.0 as u64),
+        AttributeValue::DebugInfoRefSup(x) => ("DebugInfoRefSup", x.0 as u64),
+        AttributeValue::DebugTypesRef(x) => ("DebugTypesRef", x.0),
+        AttributeValue::DebugStrRef(x) => ("DebugStrRef", x.0 as u64),
+        AttributeValue::DebugStrRefSup(x) => ("DebugStrRefSup", x.0 as u64),
+        AttributeValue::DebugLineStrRef(x) => ("DebugLineStrRef", x.0 as u64),
+        AttributeValue::DebugStrOffsetsIndex(x) => ("DebugStrOffsetsIndex", x.0 as u64),
+        AttributeValue::DebugAddrIndex(x) => ("DebugAddrIndex", x.0 as u64),
+        AttributeValue::DebugLocListsIndex(x) => ("DebugLocListsIndex", x.0 as u64),
+        AttributeValue::DebugRngListsIndex(x) => ("DebugRngListsIndex", x.0 as u64),
+        _ => ("a value that isn't raw", 0),
+    };
+    (kind, [number, 0])
 }

@@ -9,6 +9,7 @@
 
 #![tactic(auto)]
 
+pub mod entries;
 pub mod numbers;
 pub mod readers;
 pub mod sections;

@@ -26,10 +26,11 @@ of value was reached, and lines that say what this gimli doesn't have or reads o
 how many of them differed. The last line has how many of the questions were equal throughout, `N passed, M failed,
 K skipped`.
 
-`--all` goes through all short inputs, some twelve million: the sections of up to five bytes over an alphabet of
-eleven, and those of up to four after the front of a table; sets and units whose headers are nearly right; lookups in up
-to five bytes, at small indexes and at those whose product with a size is as large as an offset can be; the numbers of
-up to three bytes; and longer numbers at the edges of their range. That takes seconds.
+`--all` goes through all short inputs, some thirteen million: the sections of up to five bytes over an alphabet of
+eleven, and those of up to four after the front of a table; sets and units whose headers are nearly right; entries whose
+first value, of each form, has up to three bytes over an alphabet of seven; lookups in up to five bytes, at small
+indexes and at those whose product with a size is as large as an offset can be; the numbers of up to three bytes; and
+longer numbers at the edges of their range. That takes seconds.
 
 `--plants` tries the comparison: errors are planted in the second reader, one at a time, and two where gimli is called,
 each of another kind, such as a position, the order of two errors or the tag of a declaration. A line has how

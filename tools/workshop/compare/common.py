@@ -216,6 +216,17 @@ def put_sections(path: str, folder: str, wanted: Sequence[str] = ()) -> tuple[li
     return [it for it in names if os.path.isfile(f"{folder}/{it}")], is_big
 
 
+def entries(path: str, folder: str, is_big: bool) -> list[str]:
+    """The words for the program about the entries of an ELF file: both sections that they need, in one file."""
+    both = f"{folder}/entries"
+    with open(both, "wb") as to:
+        for name in ("debug_abbrev", "debug_info"):
+            with open(f"{folder}/{name}", "rb") as part:
+                shutil.copyfileobj(part, to)
+    size = os.path.getsize(f"{folder}/debug_abbrev")
+    return ["--section", path, f"entries {size}{', big' if is_big else ''}", both]
+
+
 def sections(path: str, folder: str) -> list[str]:
     """The words for the program about the sections of an ELF file, whose bytes are put into the folder."""
     names, is_big = put_sections(path, folder, SECTIONS)
@@ -224,6 +235,8 @@ def sections(path: str, folder: str) -> list[str]:
         if os.path.getsize(f"{folder}/{name}"):
             kind = f"{name}, big" if is_big and name in BY_ORDER else name
             words += ["--section", path, kind, f"{folder}/{name}"]
+    if {"debug_info", "debug_abbrev"} <= set(names):
+        words += entries(path, folder, is_big)
     if not words:
         say(f"{path} has none of the sections {', '.join(SECTIONS)}")
     return words

@@ -38,8 +38,8 @@ from workshop import frame, kit
 
 PROVED = f"{kit.ROOT}/docs/PROVED.md"
 USING = f"{kit.ROOT}/docs/USING.md"
-# Those of the library, of listings, of units, and of the library for C.
-CRATES = (*kit.below("dwarf_list"), "dwarf_unit_core", "dwarf_read_c")
+# Those of the library, of listings, of units, of entries, and of the library for C.
+CRATES = (*kit.below("dwarf_list"), "dwarf_unit_core", "dwarf_entry_core", "dwarf_read_c")
 # The crates with such a page, and the calls whose contracts it quotes, in this order: those that most callers use.
 QUOTED = {
     "dwarf_reader_core": """
@@ -59,12 +59,16 @@ QUOTED = {
         UnitHeader::offset UnitHeader::unit_length UnitHeader::encoding UnitHeader::type_
         UnitHeader::debug_abbrev_offset UnitHeader::entries_buf
     """,
+    "dwarf_entry_core": """
+        EntriesRaw::new EntriesRaw::is_empty EntriesRaw::next_offset EntriesRaw::read_abbreviation
+        EntriesRaw::read_attribute EntriesRaw::read_attributes EntriesRaw::skip_attributes
+    """,
 }
 # The traits whose members a page lists by name.
 NAMED = {"dwarf_reader_core": "Reader"}
 # The callers that are quoted whole, and the crates that have the examples.
 CALLER_OF = {f"dwarf_{it}": f"dwarf_uses/src/calling/{it}.rt" for it in ("reader_core", "read_core")}
-CALLERS = ("dwarf_uses", "dwarf_read_tests", "dwarf_unit_tests", "dwarf_tags")
+CALLERS = ("dwarf_uses", "dwarf_read_tests", "dwarf_unit_tests", "dwarf_entry_tests", "dwarf_tags")
 # The headings that this script writes first, and what is below the second, before and after the contracts.
 CALLER, CONTRACTS = "## A caller\n", "## Contracts\n"
 SHORTENED = """
