@@ -4,7 +4,7 @@
  * Generated, so edit nothing here: `tools/assembler` of the repository makes this file of its sources, and compares it.
  *
  * Kit: rattle-kit-13f logic dac8208d650f15bf
- * Sources: 6f493d088faa95697ad34c737d53d92baf1877677fafdae1856730dcd7051383
+ * Sources: e8bf9350e82ce25d931530f27b6eca075bf446608824a5c2c69877c51ad70e64
  *
  * Copyright 2026 the authors of this repository. Licence: MIT or Apache-2.0.
  * The file also has code of the Rattle kit, of its standard library and of its ports of bstr, itoa, memchr, smallvec.
