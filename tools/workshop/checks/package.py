@@ -350,6 +350,8 @@ class Files(frame.Check):
         self.assertEqual(set(re.findall(r" [A-Z] (\S+)$", said, re.M)), wanted)
         soname = re.findall(r"SONAME.*\[(.*)\]", output("readelf", "-d", shared))
         self.assertEqual(soname, [os.path.basename(shared)])
+        config = kit.text_of(f"{unpacked(kind)}/{LIBDIR}/cmake/dwarf_read/dwarf_read-config.cmake")
+        self.assertEqual(re.findall(r'IMPORTED_SONAME "(.*)"', config), soname)
 
 
     @frame.each(DOCS)
@@ -376,8 +378,11 @@ class Files(frame.Check):
 
     @frame.each(DOCS)
     def test_provenance(self, kind: str) -> None:
-        """PROVENANCE names folders that are there."""
+        """PROVENANCE names folders that are there, and calls proved what is."""
         text = kit.text_of(f"{unpacked(kind)}/{DOCS[kind]}/PROVENANCE").partition("SHA-256")[0]
+        proved, _, tested = text.partition("\nThese parts are tested, and not proved: ")
+        programs = [set(re.findall(r"dwarf_(?:list|elf|read_c)\b", it)) for it in (proved, tested)]
+        self.assertEqual(programs, [{"dwarf_list", "dwarf_read_c"}, {"dwarf_elf", "dwarf_list"}])
         named = re.findall(r"\bshare/[\w./-]*\w", text)
         self.assertTrue(named)
         self.assertEqual([it for it in named if not os.path.exists(f"{unpacked(kind)}/{it}")], [])
