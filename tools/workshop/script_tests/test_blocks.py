@@ -69,6 +69,8 @@ class Blocks(frame.Check):
     @frame.needs(*NEEDED, *locked())
     def test_blocks(self) -> None:
         """Each block ends well. README's first one prints what README shows; those that list a file agree."""
+        if kit.run(["git", "rev-parse", "HEAD"], cwd=kit.ROOT).returncode:
+            frame.skip("this is no checkout of git")
         if kit.run(["tools/assembler", "--sources"], cwd=kit.ROOT).returncode:
             frame.skip("the assembler files aren't of these sources")
         self.make_clone()
